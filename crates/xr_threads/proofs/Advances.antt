@@ -20,6 +20,7 @@ use Rattle.xr_threads.specs.ThreadViews.{Guarantee, giving_back}
 use Rattle.xr_threads.specs.Standing.{AreLoose, IsRun, Stand, Standing, Stands, none_rests}
 use Rattle.xr_threads.specs.Transfers.{Transfer}
 use Rattle.xr_threads.specs.Wired.{AreWired, HasAlone}
+use Rattle.xr_threads.proofs.Moments.{Moment, ThreadAt}
 use Rattle.xr_threads.proofs.Moves.{Effect, laid_at, same_hand, same_runner}
 use Rattle.xr_threads.proofs.NamedLinks.{own_linked, told_same}
 use Rattle.xr_threads.proofs.OwnEvents.{only_thread}
@@ -38,9 +39,11 @@ pub record Advance (g : Setting) (r : Runner) (a left : CoreState) : Type 0 wher
   pub roots : left.roots ≡ a.roots
   pub tied : (thread : Thread) → slice_get left.threads r.thread ≡ Some thread → thread.tie ≡ r.tie
 
-module _ (g : Setting) (first : Roles) (is : IsImageOf g first) (who : Roles) (w : Watched) (x : Told (of_kernel g.program)) (st : Standing g none_rests who w x)
-    (c t : ℕ) (a : CoreState) (at_c : slice_get w.machine.cores c ≡ Some a) (r : Runner) (runs_r : who c t ≡ used_by r None)
-    (left : CoreState) (e : Advance g r a left) (next : Option Transfer) where
+module _ {moment : Moment none_rests} (thread_at : ThreadAt moment None)
+    (left : CoreState) (e : Advance moment.setting thread_at.runner thread_at.state left) (next : Option Transfer) where
+  open moment use {setting as g, image as is, roles as who, watched as w, told as x, standing as st}
+  open thread_at use {core as c, thread as t, state as a, at_core as at_c, runner as r, runs as runs_r}
+
   thread_is : r.thread ≡ t
   thread_is = st.roles.thread c t r None runs_r
 
@@ -76,7 +79,7 @@ module _ (g : Setting) (first : Roles) (is : IsImageOf g first) (who : Roles) (w
   who_next = with_role who c t (used_by s None)
 
   abbrev pub watched_next : Watched
-  watched_next = watched g first is none_rests who w x st c t a at_c r None runs_r (only_thread t) (eq-eqb t t refl) left x.state effect None
+  watched_next = watched thread_at (only_thread t) (eq-eqb t t refl) left x.state effect None
 
   seated : IsSeated s r
   seated = record {
@@ -128,7 +131,7 @@ module _ (g : Setting) (first : Roles) (is : IsImageOf g first) (who : Roles) (w
 
   loose : 1 ≤ threads_on g.program c → AreLoose g who_next c left x.state
   loose some =
-      loose_still g who who_next c a left x.state x.state r (st.roles.core c t r None runs_r) (laid_at g first is none_rests who w x st c t r None runs_r)
+      loose_still g who who_next c a left x.state x.state r (st.roles.core c t r None runs_r) (laid_at moment c t r None runs_r)
       (st.loose c a at_c some) (record { words = (e.touched x.state).words; resources = (e.touched x.state).resources; store = λ v f. refl })
       (λ v nobody. (nobody t s None (role_here who c t (used_by s None)), λ u i other at. let k = alike_still c u i other at in ap (λ f. f.changes v) (sym k.2.footprint) ∙ nobody u k.0 other k.1))
       (λ v want.
@@ -188,11 +191,11 @@ module _ (g : Setting) (first : Roles) (is : IsImageOf g first) (who : Roles) (w
           piece = [];
           world = x.state;
           acted = refl;
-          standing = answered g first is none_rests who w x st c t a at_c r None runs_r o self left x.state effect may_rest' who_next watched_next []
-              (has_stepped g first is none_rests who w x st c t a at_c r None runs_r o self left x.state effect None (e.touched x.state).size)
+          standing = answered thread_at o self left x.state effect may_rest' who_next watched_next []
+              (has_stepped thread_at o self left x.state effect None (e.touched x.state).size)
               (record {
                 acted = refl;
-                clocks = clocks_still g first is none_rests who w x st c t a at_c r None runs_r o self left x.state effect None;
+                clocks = clocks_still thread_at o self left x.state effect None;
                 trace = st.trace;
                 roles = roles_go_on g who c t st.roles r None runs_r s None (record { seated = seated; held = refl; sync = λ n f. inl f; branches = λ n m. inl m });
                 reserves = reserves_of_others g who x.state st.reserves who_next gives;
@@ -204,8 +207,8 @@ module _ (g : Setting) (first : Roles) (is : IsImageOf g first) (who : Roles) (w
                 far_role = λ d u ne. role_far who c t (used_by s None) d u ne;
                 rests = λ u m none. absurd (false_true none);
                 far_rests = λ d u ne none. absurd (false_true none);
-                steps = λ u m. steps_still g first is none_rests who w x st c t a at_c r None runs_r o self left x.state effect None u m;
-                far_steps = λ d u ne. far_steps_still g first is none_rests who w x st c t a at_c r None runs_r o self left x.state effect None d u ne;
+                steps = λ u m. steps_still thread_at o self left x.state effect None u m;
+                far_steps = λ d u ne. far_steps_still thread_at o self left x.state effect None d u ne;
                 stand = own_stand;
                 loose = loose;
                 roots = e.roots ∙ st.roots c a at_c;

@@ -25,6 +25,7 @@ use Rattle.xr_threads.specs.Standing.{IsMade, Standing, none_rests}
 use Rattle.xr_threads.specs.Wired.{IsLine, boxes_in}
 use Rattle.xr_threads.proofs.ChannelBoxes.{line_parcels}
 use Rattle.xr_threads.proofs.Counts.{living_some, none_living, root_counts}
+use Rattle.xr_threads.proofs.Moments.{moment_of}
 use Rattle.xr_threads.proofs.Quiet.{quiet_together}
 use Rattle.xr_threads.proofs.Standing.{clock_at, core_at}
 use Rattle.xr_threads.proofs.Ticks.{has_acted, stands_after_tick, told_ticked, watched_ticked}
@@ -141,9 +142,9 @@ module _ (g : Setting) (who : Roles) (first_roles : Roles) (is : IsImageOf g fir
       IsQuietBehind g.image g.stimulus w.machine (c ∷ cores) → allowed (of_kernel g.program) g.stimulus x.state (clock c ∷ map clock cores) ≡ Some y →
       (below : Bool) → nat_lt a.clock last_clock ≡ below → IsQuiet g.program g.stimulus y
   ticked_by w x st c a at_c cores y next still e true lt =
-      let program = has_acted g first_roles is who w x st c a at_c lt in
+      let program = has_acted (moment_of g first_roles is who w x st) c a at_c lt in
       let machine : does g.image g.stimulus w.machine (Tick c) ≡ Some (record w.machine { cores = slice_set w.machine.cores c (ticked a) }) = ap (tick_at w.machine c) at_c ∙ ap (tick_by w.machine c a) lt in
-      next (watched_ticked g first_roles is who w x st c a at_c) (told_ticked g first_roles is who w x st c a at_c) (stands_after_tick g first_roles is who w x st c a at_c lt)
+      next (watched_ticked (moment_of g first_roles is who w x st) c a at_c) (told_ticked (moment_of g first_roles is who w x st) c a at_c) (stands_after_tick (moment_of g first_roles is who w x st) c a at_c lt)
       (record { quiet = λ m runs_to. still.quiet m (ap (λ (o : Option Machine). and_then o (λ n. runs g.image g.stimulus n (map Tick cores))) machine ∙ runs_to) })
       (sym (ap (λ (o : Option World). and_then o (λ z. allowed (of_kernel g.program) g.stimulus z (map clock cores))) program) ∙ e)
   ticked_by w x st c a at_c cores y next still e false ge =
@@ -167,7 +168,7 @@ module _ (g : Setting) (who : Roles) (first_roles : Roles) (is : IsImageOf g fir
       nothing f = cc
 
   quiet_behind : (cores : List ℕ) (y : World) (w : Watched) (x : Told (of_kernel g.program)) → Standing g none_rests who w x → IsQuietBehind g.image g.stimulus w.machine cores → allowed (of_kernel g.program) g.stimulus x.state (map clock cores) ≡ Some y → IsQuiet g.program g.stimulus y
-  quiet_behind [] y w x st still e = subst (IsQuiet g.program g.stimulus) (same_Some _ _ e) (quiet_together g first_roles is who w x st (still.quiet w.machine refl))
+  quiet_behind [] y w x st still e = subst (IsQuiet g.program g.stimulus) (same_Some _ _ e) (quiet_together (moment_of g first_roles is who w x st) (still.quiet w.machine refl))
   quiet_behind (c ∷ cores) y w x st still e = ticks_by w x st c cores y (quiet_behind cores y) still e (slice_get w.machine.cores c) refl
 
 -- where the machine is quiet behind some ticks, so is the program

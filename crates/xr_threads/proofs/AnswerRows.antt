@@ -36,6 +36,7 @@ use Rattle.xr_threads.proofs.EndSteps.{gone_on}
 use Rattle.xr_threads.proofs.Evaluations.{err_acts}
 use Rattle.xr_threads.proofs.InTransfers.{IsFollowed, followed, in_phase, line_is, moves_out, on_core, own_line, pauses, spot_is}
 use Rattle.xr_threads.proofs.Lines.{line_known}
+use Rattle.xr_threads.proofs.Moments.{BranchAt, Moment, ThreadAt}
 use Rattle.xr_threads.proofs.OwnEvents.{rests_alone, rests_there}
 use Rattle.xr_threads.proofs.OwnTransfers as own
 use Rattle.xr_threads.proofs.OwnTransfers.{does_so, has_behind, less}
@@ -54,11 +55,15 @@ use Rattle.xr_wires.proofs.Near.{NearCheck, IsNear, Next, checks_makes, checks_p
 use Rattle.xr_wires.proofs.Seen.{is_taken}
 use Rattle.xr_wires.proofs.Updates.{moved_to}
 
-module _ (g : Setting) (first : Roles) (is : IsImageOf g first) (who : Roles) (w : Watched) (x : Told (of_kernel g.program)) (st : Standing g none_rests who w x)
-    (c t : ℕ) (a : CoreState) (at_c : slice_get w.machine.cores c ≡ Some a) (r : Runner) (runs_r : who c t ≡ used_by r None)
-    (branch : Branch) (known : slice_get x.state.branches r.branch ≡ Some branch) (stand : Stand g r false None a x.state (w.lives c t) x.actions branch) (on : branch.mode ≡ runs)
-    (channel : ℕ) (side : Side) (v : ℕ) (its : r.transfer ≡ Some (in_phase channel side (awaits_ack (offers v)))) (j : ℕ) (few : 1 + j + cost g r ≤ stand.left)
-    (h : InTransfer g r (in_phase channel side (awaits_ack (offers v))) branch.items j (record { core = a; world = x.state; hand = None })) where
+module _ {moment : Moment none_rests} {thread_at : ThreadAt moment None} (branch_at : BranchAt thread_at)
+    (on : branch_at.branch.mode ≡ runs) (channel : ℕ) (side : Side) (v : ℕ)
+    (its : thread_at.runner.transfer ≡ Some (in_phase channel side (awaits_ack (offers v)))) (j : ℕ)
+    (few : 1 + j + cost moment.setting thread_at.runner ≤ branch_at.stand.left)
+    (h : InTransfer moment.setting thread_at.runner (in_phase channel side (awaits_ack (offers v))) branch_at.branch.items j (record { core = thread_at.state; world = moment.told.state; hand = None })) where
+  open moment use {setting as g, first, image as is, roles as who, watched as w, told as x, standing as st}
+  open thread_at use {core as c, thread as t, state as a, at_core as at_c, runner as r, runs as runs_r}
+  open branch_at use {branch, known, stand}
+
   abbrev Goal : Type 0
   Goal = IsFollowed g who w x c t r a (slot (home g r) a r.thread)
 
@@ -75,10 +80,10 @@ module _ (g : Setting) (first : Roles) (is : IsImageOf g first) (who : Roles) (w
   boxes = boxes_in g.program x.state.inboxes
 
   abbrev own_end : ChanEnd
-  own_end = end g first is who w x st c t a at_c r None runs_r channel side line at there
+  own_end = end thread_at channel side line at there
 
   near_it : IsNear g.image.chans w.machine.cores line (pair_of g.program channel) side (home g r) a own_end
-  near_it = is_near g first is who w x st c t a at_c r None runs_r channel side line at there
+  near_it = is_near thread_at channel side line at there
 
   abbrev thread : Thread
   thread = running r.tie h.pc h.regs
@@ -133,7 +138,7 @@ module _ (g : Setting) (first : Roles) (is : IsImageOf g first) (who : Roles) (w
 
     module _ (es : List ChanEnd) where
       abbrev behind : ThreadView
-      behind = own.behind g first is who w x st c t a at_c r runs_r branch known stand on h.pc h.regs h.regs h.here es rest None world acted next refl h.has unwatched None
+      behind = own.behind branch_at on h.pc h.regs h.regs h.here es rest None world acted next refl h.has unwatched None
 
       -- the thread is at the code of what is left
       at_rest : StandsWith g s (rests_alone c t c t) None rest (j + cost g r) behind
@@ -143,14 +148,14 @@ module _ (g : Setting) (first : Roles) (is : IsImageOf g first) (who : Roles) (w
             omega arith,
             refl,
             rest_as g (shrunk r rest) None rest j behind refl
-                (rest_shrinks g r rest (less g first is who w x st c t a at_c r runs_r branch known stand on h.pc h.regs h.regs h.here es rest None world acted next refl h.has unwatched None) j behind (record {
+                (rest_shrinks g r rest (less branch_at on h.pc h.regs h.regs h.here es rest None world acted next refl h.has unwatched None) j behind (record {
                   pc = h.pc + 1;
                   regs = h.regs;
                   here = here_at rest unwatched (gone_on g r a h.pc h.regs h.regs h.here es);
                   bases = code_behind.0;
                   stands = code_behind.1 behind.core;
                   fits = (subst (ItemsFit g r) h.goes_with.1 h.fits).1;
-                  has = has_behind g first is who w x st c t a at_c r runs_r branch known stand on h.pc h.regs h.regs h.here es rest None world acted next refl h.has unwatched None;
+                  has = has_behind branch_at on h.pc h.regs h.regs h.here es rest None world acted next refl h.has unwatched None;
                 })),
           )))
 
@@ -159,9 +164,9 @@ module _ (g : Setting) (first : Roles) (is : IsImageOf g first) (who : Roles) (w
       made_so is_made made =
           let left = step.left g r a h.pc h.regs h.regs h.here es in
           let cores = slice_set w.machine.cores c left in
-          let local = left_local g first is who w x st c t a at_c r None runs_r channel side line at there left (boxed boxes line side ps) (spot between false) made.local in
+          let local = left_local thread_at channel side line at there left (boxed boxes line side ps) (spot between false) made.local in
           followed (rests_alone c t) (λ d u ne. alone_elsewhere c (nat_eq u t) d ne) left None (ap (stepped (home g r) w.machine r.core r.thread a) is_made)
-          (does_so g first is who w x st c t a at_c r runs_r branch known stand on h.pc h.regs h.regs h.here es rest None world acted next refl h.has unwatched None
+          (does_so branch_at on h.pc h.regs h.regs h.here es rest None world acted next refl h.has unwatched None
           (rests_alone c t) j (j + cost g r) (omega (arith, few)) (omega arith) at_rest
           (wired_moves g is.lines who w.machine x.state st.wired c t a at_c r None runs_r s None channel side line at there between
           (moves_out g none_rests who w x st c t r None runs_r channel side (awaits_ack (offers v)) its s refl)
@@ -192,10 +197,10 @@ module _ (g : Setting) (first : Roles) (is : IsImageOf g first) (who : Roles) (w
   by_row e (checks_makes ps did found made) =
       made_so ps found (near.taken_gone g.image.chans is.lines.wired w.machine.cores boxes st.wired.ghosts st.wired.local line (pair_of g.program channel) side (home g r) a own_end near_it r.thread thread 1).ends (e ∙ did) made
   by_row e (checks_traps p ps did found wrong) =
-      errs_followed g first is who w x st c t a at_c r runs_r branch known stand (subst StopsIn (sym its) tt) (errs p ps found wrong (e ∙ did))
+      errs_followed branch_at (subst StopsIn (sym its) tt) (errs p ps found wrong (e ∙ did))
 
   pub answer_followed : Goal
   answer_followed =
-      by_row ((acts_there g first is who w x st c t a at_c r None runs_r channel side line at there r.tie h.pos (takes 3) h.pc h.regs h.steps.0).by a own_end h.here (end_is g first is who w x st c t a at_c r None runs_r channel side line at there))
+      by_row ((acts_there thread_at channel side line at there r.tie h.pos (takes 3) h.pc h.regs h.steps.0).by a own_end h.here (end_is thread_at channel side line at there))
       (near.chkct_ack g.image.chans is.lines.wired w.machine.cores boxes st.wired.ghosts st.wired.local line (pair_of g.program channel) side (home g r) a own_end near_it r.thread thread (offers v) false
       (spot_is g none_rests who w x st c t r None runs_r channel side (awaits_ack (offers v)) its))

@@ -28,6 +28,7 @@ use Rattle.xr_threads.specs.Parents.{Parent, branches_of}
 use Rattle.xr_threads.specs.Runners.{Block, Footprint, Setting, Runner, code, footprint_of, outside, places, plan, plan_in}
 use Rattle.xr_threads.specs.ThreadViews.{Owns, giving_back, running, sync_in}
 use Rattle.xr_threads.proofs.Counts.{living_after}
+use Rattle.xr_threads.proofs.Moments.{Moment, ThreadAt}
 use Rattle.xr_threads.proofs.NamedLinks.{opens_linked}
 use Rattle.xr_threads.proofs.Standing.{Follows, parents_still, told_by}
 use Rattle.xr_threads.proofs.Steps.{answered, clocks_still, far_steps_still, has_stepped, steps_still, watched}
@@ -75,9 +76,12 @@ abbrev pub sides_at : Option Placed → Sides
 sides_at None = []
 sides_at (Some placed) = placed.sides
 
-module _ (g : Setting) (first : Roles) (is : IsImageOf g first) (who : Roles) (w : Watched) (x : Told (of_kernel g.program)) (st : Standing g none_rests who w x)
-    (c t : ℕ) (a : CoreState) (at_c : slice_get w.machine.cores c ≡ Some a) (r : Runner) (hand : Option Hand) (runs_r : who c t ≡ used_by r hand)
-    (j : ℕ) (b : Begins g r j (record { core = a; world = x.state; hand = hand })) where
+module _ {moment : Moment none_rests} {hand : Option Hand} (thread_at : ThreadAt moment hand)
+    (j : ℕ)
+    (b : Begins moment.setting thread_at.runner j (record { core = thread_at.state; world = moment.told.state; hand = hand })) where
+  open moment use {setting as g, first, image as is, roles as who, watched as w, told as x, standing as st}
+  open thread_at use {core as c, thread as t, state as a, at_core as at_c, runner as r, runs as runs_r}
+
   used : AreUsedSo who c a
   used = st.used c a at_c
 
@@ -139,7 +143,7 @@ module _ (g : Setting) (first : Roles) (is : IsImageOf g first) (who : Roles) (w
 
   below : (d u k : ℕ) (s : Runner) (other : Option Hand) → who d u ≡ used_by s other → IsAmong (own_branches s) k → k < from
   below d u k s other at m =
-      let works = works_at g first is none_rests who w x st d u s other at in
+      let works = works_at moment d u s other at in
       ⊎_elim
       (λ (e : k ≡ s.branch). let lt = known_below s.branch works.branch works.known in omega (arith, lt, e))
       (λ (waiting : IsAmong (branches_of s.parents) k).
@@ -349,7 +353,7 @@ module _ (g : Setting) (first : Roles) (is : IsImageOf g first) (who : Roles) (w
 
   footprint_is : r.footprint ≡ footprint_of (does (kernel.par all) ∷ b.rest)
   footprint_is =
-      let works = works_at g first is none_rests who w x st c t r hand runs_r in
+      let works = works_at moment c t r hand runs_r in
       works.footprint ∙ ap (λ (i : Branch). footprint_of i.items) (branch_of works.branch works.known) ∙ ap footprint_of b.does_par.items_are
 
   wanted_by : (v : ℕ) (wanted : IsWanted who' c v) → PlaceAt c wanted.thread → IsWanted who c v ⊎ (r.footprint.uses v ≡ true)
@@ -370,7 +374,7 @@ module _ (g : Setting) (first : Roles) (is : IsImageOf g first) (who : Roles) (w
   loose' : 1 ≤ threads_on g.program c → AreLoose g who' c left world
   loose' some =
       let old : HoldsStore g r (record { core = a; world = x.state; hand = hand }) = b.has.holds in
-      loose_behind g who who' c a left x.state world r core_is (laid_at g first is none_rests who w x st c t r hand runs_r)
+      loose_behind g who who' c a left x.state world r core_is (laid_at moment c t r hand runs_r)
       (st.loose c a at_c some) (record { words = λ k mine. refl; resources = others_same _ _ _ _ refl refl refl; store = λ v unchanged. refl })
       (record { holds = record { lengths = old.holds.lengths; values = old.holds.values }; room = old.room })
       (λ q listed its. let k = b.has.ports q listed its in record { port = k.port; there = k.there; declared = k.declared })
@@ -385,7 +389,7 @@ module _ (g : Setting) (first : Roles) (is : IsImageOf g first) (who : Roles) (w
   -- the maker stands in the runner's sides
   maker_sides : b.branch.sides ≡ r.sides
   maker_sides =
-      let works = works_at g first is none_rests who w x st c t r hand runs_r in
+      let works = works_at moment c t r hand runs_r in
       ap (λ (i : Branch). i.sides) (sym (branch_of works.branch works.known)) ∙ works.sides
 
   abbrev maker : Branch
@@ -489,7 +493,7 @@ module _ (g : Setting) (first : Roles) (is : IsImageOf g first) (who : Roles) (w
       omega (arith, after, same, both, none)
 
   abbrev pub watched' : Watched
-  watched' = watched g first is none_rests who w x st c t a at_c r hand runs_r moved own_moved left world effect None
+  watched' = watched thread_at moved own_moved left world effect None
 
   abbrev actions : ℕ → ℕ
   actions = (told_by g.program g.stimulus x piece world).actions
@@ -771,11 +775,11 @@ module _ (g : Setting) (first : Roles) (is : IsImageOf g first) (who : Roles) (w
       piece = piece;
       world = world;
       acted = all_acted;
-      standing = answered g first is none_rests who w x st c t a at_c r hand runs_r moved own_moved left world effect rests who' watched' piece
-          (has_stepped g first is none_rests who w x st c t a at_c r hand runs_r moved own_moved left world effect None refl)
+      standing = answered thread_at moved own_moved left world effect rests who' watched' piece
+          (has_stepped thread_at moved own_moved left world effect None refl)
           (record {
             acted = all_acted;
-            clocks = clocks_still g first is none_rests who w x st c t a at_c r hand runs_r moved own_moved left world effect None;
+            clocks = clocks_still thread_at moved own_moved left world effect None;
             trace = st.trace;
             roles = roles';
             reserves = reserves';
@@ -784,8 +788,8 @@ module _ (g : Setting) (first : Roles) (is : IsImageOf g first) (who : Roles) (w
             far_role = λ d u ne. far_by d u ne (place_at d u);
             rests = λ u m none. let both : false ≡ true = none in absurd (let z : ⊥ = cc in z);
             far_rests = λ d u ne none. let both : false ≡ true = none in absurd (let z : ⊥ = cc in z);
-            steps = λ u m. steps_still g first is none_rests who w x st c t a at_c r hand runs_r moved own_moved left world effect None u m;
-            far_steps = λ d u ne. far_steps_still g first is none_rests who w x st c t a at_c r hand runs_r moved own_moved left world effect None d u ne;
+            steps = λ u m. steps_still thread_at moved own_moved left world effect None u m;
+            far_steps = λ d u ne. far_steps_still thread_at moved own_moved left world effect None d u ne;
             stand = λ u m. stand_by u m (place_at c u);
             links = st.links;
             wired = wired_still g who who' w.machine watched'.machine c a left x.state world transfers_still at_c refl refl refl st.wired;

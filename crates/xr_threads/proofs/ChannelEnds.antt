@@ -26,10 +26,14 @@ use Rattle.xr_wires.specs.Wires.{ends_in, place}
 use Rattle.xr_wires.proofs.Credits.{end_there}
 use Rattle.xr_wires.proofs.Near.{IsNear}
 use Rattle.xr_wires.proofs.Updates.{moved_to}
+use Rattle.xr_threads.proofs.Moments.{Moment, ThreadAt}
 
-module _ (g : Setting) (first_roles : Roles) (is : IsImageOf g first_roles) (who : Roles) (w : Watched) (x : Told (of_kernel g.program)) (st : Standing g none_rests who w x)
-    (c t : ℕ) (a : CoreState) (at_c : slice_get w.machine.cores c ≡ Some a) (r : Runner) (hand : Option Hand) (runs_r : who c t ≡ used_by r hand)
-    (channel : ℕ) (side : Side) (line : ℕ) (is_line : IsLine g.program line channel) (on_core : AreSidesOn g.program channel c) where
+module _ {moment : Moment none_rests} {hand : Option Hand} (thread_at : ThreadAt moment hand)
+    (channel : ℕ) (side : Side) (line : ℕ) (is_line : IsLine moment.setting.program line channel)
+    (on_core : AreSidesOn moment.setting.program channel thread_at.core) where
+  open moment use {setting as g, image as is, watched as w, told as x, standing as st}
+  open thread_at use {core as c, thread as t, state as a, at_core as at_c, runner as r, runs as runs_r}
+
   abbrev pub pair : Pair
   pair = pair_of g.program channel
 

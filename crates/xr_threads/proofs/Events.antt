@@ -37,6 +37,7 @@ use Rattle.xr_threads.proofs.InTransfers.{IsFollowed, followed, in_phase}
 use Rattle.xr_threads.proofs.InputRows.{input_followed}
 use Rattle.xr_threads.proofs.Joined as joined
 use Rattle.xr_threads.proofs.Joined.{joins_followed}
+use Rattle.xr_threads.proofs.Moments.{BranchAt, Moment, ThreadAt, branch_of, moment_of, thread_of}
 use Rattle.xr_threads.proofs.Moves.{kept_now, works_at}
 use Rattle.xr_threads.proofs.OfferRows.{offer_followed}
 use Rattle.xr_threads.proofs.OwnEvents.{rests_alone}
@@ -107,8 +108,10 @@ stand_of g r rests hand a x life actions branch branch' e h = record {
   by = subst (λ (b : Branch). StandsBy g r rests b.items b.mode h.left (record { core = a; world = x; hand = hand })) e h.by;
 }
 
-module _ (g : Setting) (first : Roles) (is : IsImageOf g first) (who : Roles) (w : Watched) (x : Told (of_kernel g.program)) (st : Standing g none_rests who w x)
-    (c t : ℕ) (a : CoreState) (at_c : slice_get w.machine.cores c ≡ Some a) (m : Machine) where
+module _ (moment : Moment none_rests)
+    (c t : ℕ) (a : CoreState) (at_c : slice_get moment.watched.machine.cores c ≡ Some a) (m : Machine) where
+  open moment use {setting as g, image as is, roles as who, watched as w, told as x, standing as st}
+
   abbrev Goal : Type 0
   Goal = FollowsSo g who w x (watched_after w (Step c t) m)
 
@@ -121,11 +124,14 @@ module _ (g : Setting) (first : Roles) (is : IsImageOf g first) (who : Roles) (w
     abbrev Leaves : Did CoreState → Type 0
     Leaves did = stepped (home g r) w.machine r.core r.thread a did ≡ Some m
 
+    abbrev thread_here : ThreadAt moment hand
+    thread_here = thread_of moment c t a at_c r hand runs_r
+
     core_is : r.core ≡ c
     core_is = st.roles.core c t r hand runs_r
 
     here : Rely g r now now
-    here = kept_now g first is none_rests who w x st c t a r hand at_c runs_r
+    here = kept_now moment c t a r hand at_c runs_r
 
     -- the machine is the one behind such a step
     goal_of : (may_rest : (core thread : ℕ) → Bool) → ((d u : ℕ) → d ≢ c → may_rest d u ≡ false) → (b : CoreState) (made : Option Record) → stepped (home g r) w.machine r.core r.thread a (slot (home g r) a r.thread) ≡ Some (record { cores = slice_set w.machine.cores r.core b; links = w.machine.links; trace = noted w.machine.trace made }) →
@@ -151,42 +157,48 @@ module _ (g : Setting) (first : Roles) (is : IsImageOf g first) (who : Roles) (w
       abbrev stand_alone : Stand g r false None a x.state (w.lives c t) x.actions branch
       stand_alone = stand_as g r false hand None a x.state (w.lives c t) x.actions branch none stand
 
+      abbrev thread_alone : ThreadAt moment None
+      thread_alone = thread_of moment c t a at_c r None runs_alone
+
+      abbrev here_alone : BranchAt thread_alone
+      here_alone = branch_of thread_alone branch known stand_alone
+
       -- inside a transfer
       in_transfer : branch.mode ≡ runs → (channel : ℕ) (side : Side) (phase : Phase) → r.transfer ≡ Some (in_phase channel side phase) → (j : ℕ) → steps_left phase + j + cost g r ≤ stand.left → InTransfer g r (in_phase channel side phase) branch.items j alone → Leaves (slot (home g r) a r.thread) → Goal
       in_transfer on channel side between its j few h e = absurd h.goes_with
-      in_transfer on channel side (sends_end v) its j few h e = by_followed (sends_end_followed g first is who w x st c t a at_c r runs_alone branch known stand_alone on channel side v its j few h) e
-      in_transfer on channel side (awaits_ack (wires.Question.offers v)) its j few h e = by_followed (answer_followed g first is who w x st c t a at_c r runs_alone branch known stand_alone on channel side v its j few h) e
+      in_transfer on channel side (sends_end v) its j few h e = by_followed (sends_end_followed here_alone on channel side v its j few h) e
+      in_transfer on channel side (awaits_ack (wires.Question.offers v)) its j few h e = by_followed (answer_followed here_alone on channel side v its j few h) e
       in_transfer on channel side (awaits_ack opens) its j few h e = absurd h.goes_with
       in_transfer on channel side (awaits_ack closes) its j few h e = absurd h.goes_with
-      in_transfer on channel side checks_end its j few h e = by_followed (checks_end_followed g first is who w x st c t a at_c r runs_alone branch known stand_alone on channel side its j few h) e
-      in_transfer on channel side sends_ack its j few h e = by_followed (sends_ack_followed g first is who w x st c t a at_c r runs_alone branch known stand_alone on channel side its j few h) e
+      in_transfer on channel side checks_end its j few h e = by_followed (checks_end_followed here_alone on channel side its j few h) e
+      in_transfer on channel side sends_ack its j few h e = by_followed (sends_ack_followed here_alone on channel side its j few h) e
       in_transfer on channel side was_closed its j few h e = absurd h.goes_with
       in_transfer on channel side streams its j few h e = absurd h.goes_with
 
       -- outside of one
       err_goal : r.transfer ≡ None → Errs g r alone → Leaves (slot (home g r) a r.thread) → Goal
-      err_goal outside h e = by_followed (errs_followed g first is who w x st c t a at_c r runs_alone branch known stand_alone (subst StopsIn (sym outside) tt) h) e
+      err_goal outside h e = by_followed (errs_followed here_alone (subst StopsIn (sym outside) tt) h) e
 
       begin_goal : r.transfer ≡ None → branch.mode ≡ runs → (j : ℕ) → j ≤ stand.left → Offers g r j alone → Leaves (slot (home g r) a r.thread) → Goal
-      begin_goal outside on j few h e = by_followed (offer_followed g first is who w x st c t a at_c r runs_alone branch known stand_alone on outside j few h) e
+      begin_goal outside on j few h e = by_followed (offer_followed here_alone on outside j few h) e
 
       input_goal : r.transfer ≡ None → branch.mode ≡ runs → (j : ℕ) → j ≤ stand.left → TakesIn g r j alone → Leaves (slot (home g r) a r.thread) → Goal
-      input_goal outside on j few h e = by_followed (input_followed g first is who w x st c t a at_c r runs_alone branch known stand_alone on outside j few h) e
+      input_goal outside on j few h e = by_followed (input_followed here_alone on outside j few h) e
 
       go_goal : r.transfer ≡ None → (j : ℕ) → j ≤ stand.left → Goes g r j alone → Leaves (slot (home g r) a r.thread) → Goal
       go_goal outside j few h e =
           goal_of (rests_alone c t) (λ d u ne. alone_elsewhere c (nat_eq u t) d ne) h.left h.made (ap (stepped (home g r) w.machine r.core r.thread a) h.made_is) e
-          (goes_answered g first is who w x st c t a at_c r runs_alone branch known stand_alone outside j few h h.touched.size)
+          (goes_answered here_alone outside j few h h.touched.size)
 
       free_goal : r.transfer ≡ None → Frees g r alone → Leaves (slot (home g r) a r.thread) → Goal
       free_goal outside h e =
           goal_of none_rests (λ d u ne. refl) h.left None (ap (stepped (home g r) w.machine r.core r.thread a) h.made_is) e
-          (frees_answered g first is who w x st c t a at_c r runs_alone branch known stand_alone outside h)
+          (frees_answered here_alone outside h)
 
       wait_goal : r.transfer ≡ None → Waits g r alone → Leaves (slot (home g r) a r.thread) → Goal
       wait_goal outside h e =
           goal_of none_rests (λ d u ne. refl) h.left None (ap (stepped (home g r) w.machine r.core r.thread a) h.made_is) e
-          (waits_answered g first is who w x st c t a at_c r runs_alone branch known stand_alone outside h)
+          (waits_answered here_alone outside h)
 
     -- the turn at an item's own instruction
     at_turn : branch.mode ≡ runs → r.transfer ≡ None → (j : ℕ) → j ≤ stand.left → Turn g r j now → Leaves (slot (home g r) a r.thread) → Goal
@@ -200,15 +212,15 @@ module _ (g : Setting) (first : Roles) (is : IsImageOf g first) (who : Roles) (w
     at_turn on out j few (begins h) e =
         let same : branch ≡ h.branch = same_Some branch h.branch (sym known ∙ h.does_par.known) in
         let stand' = stand_of g r false hand a x.state (w.lives c t) x.actions branch h.branch same stand in
-        goal_of (begun.rests g first is who w x st c t a at_c r hand runs_r j h) (λ d u ne. alone_elsewhere c (begun.moved g first is who w x st c t a at_c r hand runs_r j h u) d ne) (begun.left g first is who w x st c t a at_c r hand runs_r j h) None
+        goal_of (begun.rests thread_here j h) (λ d u ne. alone_elsewhere c (begun.moved thread_here j h u) d ne) (begun.left thread_here j h) None
         (ap (stepped (home g r) w.machine r.core r.thread a) h.goes) e
-        (begins_followed g first is who w x st c t a at_c r hand runs_r j h stand' out few)
+        (begins_followed thread_here j h stand' out few)
 
     -- a silent step
     on_the_way : (z : ThreadView) → ((mode : ThreadMode) → mode ≡ Running → ThreadIs r.parents branch.mode mode) → ((bit : Bool) → bit ≡ false → EventsAre branch.mode branch.items bit) → IsSilentStep g r now z → (left : ℕ) → suc left ≤ stand.left → StandsBy g r false branch.items branch.mode left z → Leaves (slot (home g r) a r.thread) → Goal
     on_the_way z alive calm silent left few by e =
         goal_of none_rests (λ d u ne. refl) z.core None (ap (stepped (home g r) w.machine r.core r.thread a) silent.made) e
-        (silent_followed g first is who w x st c t a at_c r hand runs_r branch known stand z alive calm silent left few by)
+        (silent_followed (branch_of thread_here branch known stand) z alive calm silent left few by)
 
     -- a branch that runs
     running_alive : branch.mode ≡ runs → (mode : ThreadMode) → mode ≡ Running → ThreadIs r.parents branch.mode mode
@@ -235,10 +247,10 @@ module _ (g : Setting) (first : Roles) (is : IsImageOf g first) (who : Roles) (w
         let in_hand : hand ≡ giving_back h.sync = h.in_hand in
         let stand' = stand_as g r false hand (giving_back h.sync) a x.state (w.lives c t) x.actions branch in_hand stand in
         let h' = subst (λ k. GivesBack g r branch.items j (record { core = a; world = x.state; hand = k })) in_hand h in
-        let runs' : who c t ≡ used_by r (giving_back h.sync) = runs_r ∙ ap (used_by r) in_hand in
-        goal_of (rests_alone c t) (λ d u ne. alone_elsewhere c (nat_eq u t) d ne) (resumes.left g first is who w x st c t a at_c r h.sync runs' branch known running stand' out j few h') None
-        (ap (stepped (home g r) w.machine r.core r.thread a) (resumes.made_is g first is who w x st c t a at_c r h.sync runs' branch known running stand' out j few h')) e
-        (resumes_followed g first is who w x st c t a at_c r h.sync runs' branch known running stand' out j few h')
+        let thread' = thread_of moment c t a at_c r (giving_back h.sync) (runs_r ∙ ap (used_by r) in_hand) in
+        goal_of (rests_alone c t) (λ d u ne. alone_elsewhere c (nat_eq u t) d ne) (resumes.left thread' branch known running stand' out j few h') None
+        (ap (stepped (home g r) w.machine r.core r.thread a) (resumes.made_is thread' branch known running stand' out j few h')) e
+        (resumes_followed thread' branch known running stand' out j few h')
 
     -- one that has ended, and others wait for it
     module _ (p : Parent) (ps : List Parent) (parents : r.parents ≡ p ∷ ps) (over : branch.mode ≡ ended) where
@@ -254,9 +266,9 @@ module _ (g : Setting) (first : Roles) (is : IsImageOf g first) (who : Roles) (w
       by_join j few h e true sync is_sync wait =
           let none : hand ≡ None = h.no_hand in
           let h' = subst (λ k. JoinsAt g r p ps j (record { core = a; world = x.state; hand = k })) none h in
-          goal_of (rests_alone c t) (λ d u ne. alone_elsewhere c (nat_eq u t) d ne) (joined.left g first is who w x st c t a at_c r (runs_alone none) p ps parents sync is_sync branch known over wait j (stand_alone none) few h') None
-          (ap (stepped (home g r) w.machine r.core r.thread a) (joined.made_is g first is who w x st c t a at_c r (runs_alone none) p ps parents sync is_sync branch known over wait j (stand_alone none) few h')) e
-          (joins_followed g first is who w x st c t a at_c r (runs_alone none) p ps parents sync is_sync branch known over wait j (stand_alone none) few h')
+          goal_of (rests_alone c t) (λ d u ne. alone_elsewhere c (nat_eq u t) d ne) (joined.left (thread_alone none) p ps parents sync is_sync branch known over wait j (stand_alone none) few h') None
+          (ap (stepped (home g r) w.machine r.core r.thread a) (joined.made_is (thread_alone none) p ps parents sync is_sync branch known over wait j (stand_alone none) few h')) e
+          (joins_followed (thread_alone none) p ps parents sync is_sync branch known over wait j (stand_alone none) few h')
 
       by_joining : (n j : ℕ) → n + j ≤ stand.left → LeadsIn g r (Joins g r p ps j) n now → Leaves (slot (home g r) a r.thread) → Goal
       by_joining zero j few leads e = let h = leads now here in by_join j (omega arith) h e (all_wait a.threads h.sync) h.sync h.sync_is refl
@@ -327,22 +339,24 @@ module _ (g : Setting) (first : Roles) (is : IsImageOf g first) (who : Roles) (w
   step_followed unused is_role h e = outside (slice_get a.threads t) refl is_role e
   step_followed (got_by k) is_role h e =
       let q = st.roles.got c t k is_role in
-      let holder = works_at g first is none_rests who w x st c k q.0 q.1 q.2 in
+      let holder = works_at moment c k q.0 q.1 q.2 in
       let sync = hand_sync holder.branch.items q.1 t holder.in_hand q.3 in
       let f = waiting_thread_of sync.0 (slice_get a.threads t) refl ((st.used c a at_c).got t k sync.0 q.0 q.1 is_role q.2 sync.1) in
       no_step (home_of g.image g.stimulus c) w.machine m c t a (slot (home_of g.image g.stimulus c) a t) (idle_thread (home_of g.image g.stimulus c) a t f.0 f.1 (inr (inl f.2))) e
   step_followed (used_by r hand) is_role h e = at_branch r hand is_role (slice_get x.state.branches r.branch) refl h e
 
-module _ (g : Setting) (first : Roles) (is : IsImageOf g first) (who : Roles) (w : Watched) (m : Machine) (x : Told (of_kernel g.program)) (st : Standing g none_rests who w x) where
+module _ (moment : Moment none_rests) (m : Machine) where
+  open moment use {setting as g, roles as who, watched as w, told as x, standing as st}
+
   -- wherever the core is
   at_core : (c t : ℕ) (o : Option CoreState) → slice_get w.machine.cores c ≡ o → step_at (home_of g.image g.stimulus c) w.machine c t o ≡ Some m → FollowsSo g who w x (watched_after w (Step c t) m)
   at_core c t None at_c e = no_machine m e
-  at_core c t (Some a) at_c e = step_followed g first is who w x st c t a at_c m (who c t) refl (st.threads c t a at_c) e
+  at_core c t (Some a) at_c e = step_followed moment c t a at_c m (who c t) refl (st.threads c t a at_c) e
 
   -- a core's tick
   at_clock : (c : ℕ) (o : Option CoreState) → slice_get w.machine.cores c ≡ o → tick_at w.machine c o ≡ Some m → FollowsSo g who w x (watched_after w (Tick c) m)
   at_clock c None at_c e = no_machine m e
-  at_clock c (Some a) at_c e = record { core = 0; there = omega arith; may_rest = none_rests; elsewhere = λ d u ne. refl; follows = tick_followed g first is who w x st c a at_c m e }
+  at_clock c (Some a) at_c e = record { core = 0; there = omega arith; may_rest = none_rests; elsewhere = λ d u ne. refl; follows = tick_followed moment c a at_c m e }
 
   -- Each event is followed by a piece of the program's run; behind it some threads may be at rest.
   pub event_answered : (event : Event) → does g.image g.stimulus w.machine event ≡ Some m → FollowsSo g who w x (watched_after w event m)

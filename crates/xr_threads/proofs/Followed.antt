@@ -9,11 +9,12 @@ use Rattle.xr_threads.specs.Roles.{Roles}
 use Rattle.xr_threads.specs.Runners.{Setting}
 use Rattle.xr_threads.specs.Standing.{Standing, none_rests}
 use Rattle.xr_threads.proofs.Events.{event_answered}
+use Rattle.xr_threads.proofs.Moments.{moment_of}
 use Rattle.xr_threads.proofs.SettleAll.{settles_behind}
 use Rattle.xr_threads.proofs.Standing.{Follows}
 
 -- the event's own piece, and then what its threads do without an instruction
 pub event_followed : (g : Setting) (first : Roles) (is : IsImageOf g first) (who : Roles) (w : Watched) (m : Machine) (x : Told (of_kernel g.program)) (st : Standing g none_rests who w x) (event : Event) → does g.image g.stimulus w.machine event ≡ Some m → Follows g none_rests who w x (watched_after w event m)
 event_followed g first is who w m x st event h =
-    let answer = event_answered g first is who w m x st event h in
+    let answer = event_answered (moment_of g first is who w x st) m event h in
     settles_behind g first is (watched_after w event m) who w answer.may_rest x answer.core answer.there answer.elsewhere answer.follows

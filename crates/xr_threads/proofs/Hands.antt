@@ -25,6 +25,7 @@ use Rattle.xr_threads.specs.Runners.{Setting, Runner}
 use Rattle.xr_threads.specs.ThreadViews.{HandChange, IsSilentStep, Owns, gets_sync, gets_thread, keeps, SameUse, ThreadView, StillRuns, Guarantee, giving_back, held_in, sync_in}
 use Rattle.xr_threads.specs.Standing.{EventsAre, Stand, Standing, StandsBy, ThreadIs, none_rests}
 use Rattle.xr_threads.specs.Living.{AreNamed}
+use Rattle.xr_threads.proofs.Moments.{BranchAt, Moment, ThreadAt}
 use Rattle.xr_threads.proofs.NamedLinks.{gets_sync_linked, gets_thread_linked, keeps_linked, told_same}
 use Rattle.xr_threads.proofs.NamedPieces.{Goes}
 use Rattle.xr_threads.proofs.Standing.{Follows, told_by}
@@ -78,10 +79,12 @@ hand_sync items hand u (opens h bs rest e is count several synced) m = by h.sync
     by None none = absurd (subst (λ l. IsAmong l u) (synced none) (subst (λ k. IsAmong (held_in k) u) e m))
     by (Some n) some = (n, ap sync_in e ∙ some)
 
-module _ (g : Setting) (first : Roles) (is : IsImageOf g first) (who : Roles) (w : Watched) (x : Told (of_kernel g.program)) (st : Standing g none_rests who w x)
-    (c t : ℕ) (a : CoreState) (at_c : slice_get w.machine.cores c ≡ Some a) (r : Runner) (hand : Option Hand) (runs_r : who c t ≡ used_by r hand)
-    (branch : Branch) (fits : HandFits branch.items hand) (z : ThreadView) (on : StillRuns g r z.core)
-    (touched : Guarantee g r (record { core = a; world = x.state; hand = hand }) z) where
+module _ {moment : Moment none_rests} {hand : Option Hand} (thread_at : ThreadAt moment hand)
+    (branch : Branch) (fits : HandFits branch.items hand) (z : ThreadView) (on : StillRuns moment.setting thread_at.runner z.core)
+    (touched : Guarantee moment.setting thread_at.runner (record { core = thread_at.state; world = moment.told.state; hand = hand }) z) where
+  open moment use {setting as g, image as is, roles as who, watched as w, told as x, standing as st}
+  open thread_at use {core as c, thread as t, state as a, at_core as at_c, runner as r, runs as runs_r}
+
   abbrev now : ThreadView
   now = record { core = a; world = x.state; hand = hand }
 
@@ -300,13 +303,13 @@ module _ (g : Setting) (first : Roles) (is : IsImageOf g first) (who : Roles) (w
     is_unused_by unused e = e
     is_unused_by (got_by k) e =
         let q = st.roles.got c v k e in
-        let holder = works_at g first is none_rests who w x st c k q.0 q.1 q.2 in
+        let holder = works_at moment c k q.0 q.1 q.2 in
         let sync = hand_sync holder.branch.items q.1 v holder.in_hand q.3 in
         let waits = subst (IsWaitingTied sync.0) there ((st.used c a at_c).got v k sync.0 q.0 q.1 e q.2 sync.1) in
         let both : Unused ≡ Waiting = sym unused_now ∙ waits.waits in
         cc
     is_unused_by (used_by i other) e =
-        let own_thread = own_thread_of g i false other a x.state (w.lives c v) x.actions (stands_at g first is none_rests who w x st c v a i other at_c e) in
+        let own_thread = own_thread_of g i false other a x.state (w.lives c v) x.actions (stands_at moment c v a i other at_c e) in
         let same : own_thread.thread ≡ x' = same_Some own_thread.thread x' (sym own_thread.there ∙ ap (slice_get a.threads) (st.roles.thread c v i other e) ∙ there) in
         absurd (own_thread.used (ap (λ (k : Thread). k.mode) same ∙ unused_now))
 
@@ -317,7 +320,7 @@ module _ (g : Setting) (first : Roles) (is : IsImageOf g first) (who : Roles) (w
     few_there = let lt = slice_get_within a.threads v x' there in let eight = (st.used c a at_c).threads in omega arith
 
     pub inside_there : v < threads_on g.program c
-    inside_there = first_unused_inside g who x.state c a (crew_at g first is none_rests who w x st c a at_c) t v r h runs_h lacks next
+    inside_there = first_unused_inside g who x.state c a (crew_at moment c a at_c) t v r h runs_h lacks next
 
     abbrev pub hand_more : Option Hand
     hand_more = Some (with_thread_got h v)
@@ -424,11 +427,16 @@ module _ (g : Setting) (first : Roles) (is : IsImageOf g first) (who : Roles) (w
             inl (inr (ap sync_in in_hand ∙ synced ∙ one))
 
 -- A silent step leads on, whatever it makes of the thread's hand.
-module _ (g : Setting) (first : Roles) (is : IsImageOf g first) (who : Roles) (w : Watched) (x : Told (of_kernel g.program)) (st : Standing g none_rests who w x)
-    (c t : ℕ) (a : CoreState) (at_c : slice_get w.machine.cores c ≡ Some a) (r : Runner) (hand : Option Hand) (runs_r : who c t ≡ used_by r hand)
-    (branch : Branch) (known : slice_get x.state.branches r.branch ≡ Some branch) (stand : Stand g r false hand a x.state (w.lives c t) x.actions branch)
-    (z : ThreadView) (alive : (mode : ThreadMode) → mode ≡ Running → ThreadIs r.parents branch.mode mode) (calm : (bit : Bool) → bit ≡ false → EventsAre branch.mode branch.items bit) (silent : IsSilentStep g r (record { core = a; world = x.state; hand = hand }) z)
-    (left : ℕ) (few : suc left ≤ stand.left) (by : StandsBy g r false branch.items branch.mode left z) where
+module _ {moment : Moment none_rests} {hand : Option Hand} {thread_at : ThreadAt moment hand} (branch_at : BranchAt thread_at)
+    (z : ThreadView) (alive : (mode : ThreadMode) → mode ≡ Running → ThreadIs thread_at.runner.parents branch_at.branch.mode mode)
+    (calm : (bit : Bool) → bit ≡ false → EventsAre branch_at.branch.mode branch_at.branch.items bit)
+    (silent : IsSilentStep moment.setting thread_at.runner (record { core = thread_at.state; world = moment.told.state; hand = hand }) z)
+    (left : ℕ) (few : suc left ≤ branch_at.stand.left)
+    (by : StandsBy moment.setting thread_at.runner false branch_at.branch.items branch_at.branch.mode left z) where
+  open moment use {setting as g, image as is, roles as who, watched as w, told as x, standing as st}
+  open thread_at use {core as c, thread as t, state as a, at_core as at_c, runner as r, runs as runs_r}
+  open branch_at use {branch, stand}
+
   abbrev pub silent_machine : Machine
   silent_machine = record { cores = slice_set w.machine.cores c z.core; links = w.machine.links; trace = noted w.machine.trace None }
 
@@ -452,24 +460,24 @@ module _ (g : Setting) (first : Roles) (is : IsImageOf g first) (who : Roles) (w
   by_roles : (hand' : Option Hand) → z.hand ≡ hand' → (who' : Roles) (moved : ℕ → Bool) → SilentRoles g who who' c t r hand hand' a z.core branch moved → (AreNamed g who w x → AreNamed g who' (watched_after w (Step c t) silent_machine) nothing_told) →
       Follows g none_rests who w x (watched_after w (Step c t) silent_machine)
   by_roles hand' e who' moved roles named =
-      silent_answered g first is who w x st c t a at_c r hand runs_r branch known stand z.core hand' alive calm silent.on (view_is hand' e (Guarantee g r before) silent.touched) silent.roots silent.channel_ends who' moved roles left few
+      silent_answered branch_at z.core hand' alive calm silent.on (view_is hand' e (Guarantee g r before) silent.touched) silent.roots silent.channel_ends who' moved roles left few
       (view_is hand' e (StandsBy g r false branch.items branch.mode left) by) named
 
   by_change : HandChange g r before z → Follows g none_rests who w x (watched_after w (Step c t) silent_machine)
   by_change (keeps e syncs same) =
       by_roles hand e who (λ u. only_thread t u || is_held (held_in hand) u)
-      (keeps_roles g first is who w x st c t a at_c r hand runs_r branch stand.in_hand z silent.on silent.touched e syncs same)
+      (keeps_roles thread_at branch stand.in_hand z silent.on silent.touched e syncs same)
       (λ names. keeps_linked g none_rests who w x st names silent_machine c t before z at_c at_left r nothing_told nothing_done hand runs_r syncs silent.touched.as_many same)
   by_change (gets_sync h n e none free taken with_it same) =
       by_roles (Some (with_sync h n)) with_it (with_role who c t (used_by r (Some (with_sync h n)))) (only_thread t)
-      (gets_sync_roles g first is who w x st c t a at_c r hand runs_r branch stand.in_hand z silent.on silent.touched h n e none free taken with_it same)
+      (gets_sync_roles thread_at branch stand.in_hand z silent.on silent.touched h n e none free taken with_it same)
       (λ names. gets_sync_linked g none_rests who w x st names silent_machine c t before z at_c at_left r nothing_told nothing_done h n (runs_r ∙ ap (used_by r) e) none free taken silent.touched.as_many same)
   by_change (gets_thread h n v x' e synced lacks next there syncs with_it tied others) =
       by_roles (Some (with_thread_got h v)) with_it
-      (who_more g first is who w x st c t a at_c r hand runs_r branch stand.in_hand z silent.on silent.touched h n v x' e synced lacks next there syncs tied others)
+      (who_more thread_at branch stand.in_hand z silent.on silent.touched h n v x' e synced lacks next there syncs tied others)
       (λ u. only_thread t u || only_thread v u)
-      (gets_thread_roles g first is who w x st c t a at_c r hand runs_r branch stand.in_hand z silent.on silent.touched h n v x' e synced lacks next there syncs tied others)
-      (λ names. more_named g first is who w x st c t a at_c r hand runs_r branch stand.in_hand z silent.on silent.touched h n v x' e synced lacks next there syncs tied others names silent_machine at_left nothing_told nothing_done)
+      (gets_thread_roles thread_at branch stand.in_hand z silent.on silent.touched h n v x' e synced lacks next there syncs tied others)
+      (λ names. more_named thread_at branch stand.in_hand z silent.on silent.touched h n v x' e synced lacks next there syncs tied others names silent_machine at_left nothing_told nothing_done)
 
   pub silent_followed : Follows g none_rests who w x (watched_after w (Step c t) silent_machine)
   silent_followed = by_change silent.hand

@@ -29,6 +29,7 @@ use Rattle.xr_threads.proofs.Advances.{advances, watched_next, who_next}
 use Rattle.xr_threads.proofs.EndSteps as step
 use Rattle.xr_threads.proofs.EndSteps.{advance, gone_on}
 use Rattle.xr_threads.proofs.Lives.{own_life}
+use Rattle.xr_threads.proofs.Moments.{BranchAt, Moment, ThreadAt}
 use Rattle.xr_threads.proofs.Standing.{Follows, told_by}
 use Rattle.xr_threads.proofs.Watching.{events_on}
 use Rattle.xr_threads.proofs.WiredMoves.{Moves}
@@ -89,10 +90,14 @@ module _ (g : Setting) (may_rest : (core thread : ℕ) → Bool) (who : Roles) (
   }
 
 -- The thread goes on, and the program does nothing.
-module _ (g : Setting) (first : Roles) (is : IsImageOf g first) (who : Roles) (w : Watched) (x : Told (of_kernel g.program)) (st : Standing g none_rests who w x)
-    (c t : ℕ) (a : CoreState) (at_c : slice_get w.machine.cores c ≡ Some a) (r : Runner) (runs_r : who c t ≡ used_by r None)
-    (branch : Branch) (known : slice_get x.state.branches r.branch ≡ Some branch) (stand : Stand g r false None a x.state (w.lives c t) x.actions branch) (on : branch.mode ≡ runs)
-    (pc : ℕ) (regs : Regs) (here : slice_get a.threads r.thread ≡ Some (running r.tie pc regs)) (ends : List ChanEnd) (next : Option Transfer) where
+module _ {moment : Moment none_rests} {thread_at : ThreadAt moment None} (branch_at : BranchAt thread_at)
+    (on : branch_at.branch.mode ≡ runs) (pc : ℕ) (regs : Regs)
+    (here : slice_get thread_at.state.threads thread_at.runner.thread ≡ Some (running thread_at.runner.tie pc regs))
+    (ends : List ChanEnd) (next : Option Transfer) where
+  open moment use {setting as g, image as is, roles as who, watched as w, told as x}
+  open thread_at use {core as c, thread as t, state as a, runner as r}
+  open branch_at use {branch, known, stand}
+
   abbrev pub left : CoreState
   left = step.left g r a pc regs regs here ends
 
@@ -103,7 +108,7 @@ module _ (g : Setting) (first : Roles) (is : IsImageOf g first) (who : Roles) (w
   behind = record { core = left; world = x.state; hand = None }
 
   abbrev pub watched : Watched
-  watched = watched_next g first is who w x st c t a at_c r runs_r left (advance g r a pc regs regs here ends) next
+  watched = watched_next thread_at left (advance g r a pc regs regs here ends) next
 
   abbrev more : ℕ → ℕ
   more = (told_by g.program g.stimulus x [] x.state).actions
@@ -145,7 +150,7 @@ module _ (g : Setting) (first : Roles) (is : IsImageOf g first) (who : Roles) (w
 
   -- so the two sides stand so again
   pub goes_on_so : (may_rest' : (core thread : ℕ) → Bool) (fewer : ℕ) → suc fewer ≤ stand.left → StandsWith g s (may_rest' c t) next branch.items fewer behind →
-      AreWired g (who_next g first is who w x st c t a at_c r runs_r left (advance g r a pc regs regs here ends) next) watched.machine x.state →
+      AreWired g (who_next thread_at left (advance g r a pc regs regs here ends) next) watched.machine x.state →
       ((transfer : Transfer) → next ≡ Some transfer → HasAlone x.state.branches transfer.channel transfer.side r.branch) → Follows g may_rest' who w x watched
   goes_on_so may_rest' fewer few by wired alone =
-      advances g first is who w x st c t a at_c r runs_r left (advance g r a pc regs regs here ends) next may_rest' branch known wired alone (own_stand (may_rest' c t) fewer few by)
+      advances thread_at left (advance g r a pc regs regs here ends) next may_rest' branch known wired alone (own_stand (may_rest' c t) fewer few by)

@@ -43,6 +43,7 @@ use Rattle.xr_threads.proofs.Holding.{HaveEnded, holds_behind, ports_behind}
 use Rattle.xr_threads.proofs.JoinsRoles as roles_after
 use Rattle.xr_threads.proofs.JoinsRoles.{joins, own, roles_join}
 use Rattle.xr_threads.proofs.Lives.{own_life}
+use Rattle.xr_threads.proofs.Moments.{Moment, ThreadAt}
 use Rattle.xr_threads.proofs.Moves.{Effect, same_hand, same_runner, works_at}
 use Rattle.xr_threads.proofs.ParWorlds.{join_acts, joined}
 use Rattle.xr_threads.proofs.Pools.{joined_at, joined_length, joined_one, joined_other, num_is, num_same}
@@ -74,10 +75,13 @@ outermost_below g x roots core family forest (p ∷ ps) first h =
     let on = outermost_below g x roots core family forest ps p.branch h.1 in
     omega (arith, less, is, on)
 
-module _ (g : Setting) (first : Roles) (is : IsImageOf g first) (who : Roles) (w : Watched) (x : Told (of_kernel g.program)) (st : Standing g none_rests who w x)
-    (c t : ℕ) (a : CoreState) (at_c : slice_get w.machine.cores c ≡ Some a) (r : Runner) (runs_r : who c t ≡ used_by r None)
-    (p : Parent) (ps : List Parent) (parents : r.parents ≡ p ∷ ps) (n : ℕ) (sync : p.sync ≡ Some n)
-    (branch : Branch) (known : slice_get x.state.branches r.branch ≡ Some branch) (mode : branch.mode ≡ ended) (wait : all_wait a.threads n ≡ true) where
+module _ {moment : Moment none_rests} (thread_at : ThreadAt moment None)
+    (p : Parent) (ps : List Parent) (parents : thread_at.runner.parents ≡ p ∷ ps) (n : ℕ) (sync : p.sync ≡ Some n) (branch : Branch)
+    (known : slice_get moment.told.state.branches thread_at.runner.branch ≡ Some branch) (mode : branch.mode ≡ ended)
+    (wait : all_wait thread_at.state.threads n ≡ true) where
+  open moment use {setting as g, first, image as is, roles as who, watched as w, told as x, standing as st}
+  open thread_at use {core as c, thread as t, state as a, at_core as at_c, runner as r, runs as runs_r}
+
   used : AreUsedSo who c a
   used = st.used c a at_c
 
@@ -531,7 +535,7 @@ module _ (g : Setting) (first : Roles) (is : IsImageOf g first) (who : Roles) (w
     -- whose branch has ended needs nothing
     needs_nothing : (u : ℕ) (q : Runner) (hand : Option Hand) → who c u ≡ used_by q hand → is_done (slice_get x.state.branches q.branch) ≡ true → q.footprint ≡ footprint_of []
     needs_nothing u q hand at done =
-        let k = works_at g first is none_rests who w x st c u q hand at in
+        let k = works_at moment c u q hand at in
         let over : k.branch.mode ≡ ended = ended_is k.branch.mode (sym (ap is_done k.known) ∙ done) in
         k.footprint ∙ ap footprint_of (forest.stopped q.branch k.branch k.known (inl over))
 
@@ -581,7 +585,7 @@ module _ (g : Setting) (first : Roles) (is : IsImageOf g first) (who : Roles) (w
 
     has' : Has g maker p.items (record { core = left; world = world; hand = giving_back n })
     has' =
-        let works = works_at g first is none_rests who w x st in
+        let works = works_at moment in
         let h = holds_behind g who x.state st.lawful works c t r None p ps runs_r parents have_ended maker a (st.loose c a at_c some_threads) core_is refl room None in
         let ports = ports_behind g who x.state st.lawful works c t r None p ps runs_r parents have_ended maker a (st.loose c a at_c some_threads) core_is refl room None in
         record {
@@ -613,7 +617,7 @@ module _ (g : Setting) (first : Roles) (is : IsImageOf g first) (who : Roles) (w
         }
 
     abbrev watched' : Watched
-    watched' = watched g first is none_rests who w x st c t a at_c r None runs_r moved own_moved left world effect None
+    watched' = watched thread_at moved own_moved left world effect None
 
     -- the step counts for the family
     counts_one : 1 ≤ steps_of g.program g.stimulus r.family (Some x.state) piece
@@ -669,7 +673,7 @@ module _ (g : Setting) (first : Roles) (is : IsImageOf g first) (who : Roles) (w
     -- whose branch has ended is in no transfer
     in_none : (u : ℕ) (q : Runner) (hand : Option Hand) → who c u ≡ used_by q hand → is_done (slice_get x.state.branches q.branch) ≡ true → q.transfer ≡ None
     in_none u q hand at done =
-        let k = works_at g first is none_rests who w x st c u q hand at in
+        let k = works_at moment c u q hand at in
         k.done (ended_is k.branch.mode (sym (ap is_done k.known) ∙ done))
 
     -- each thread is in the transfer in which it was
@@ -694,11 +698,11 @@ module _ (g : Setting) (first : Roles) (is : IsImageOf g first) (who : Roles) (w
       piece = piece;
       world = world;
       acted = all_acted;
-      standing = answered g first is none_rests who w x st c t a at_c r None runs_r moved own_moved left world effect (rests_alone c t) who' watched' piece
-          (has_stepped g first is none_rests who w x st c t a at_c r None runs_r moved own_moved left world effect None refl)
+      standing = answered thread_at moved own_moved left world effect (rests_alone c t) who' watched' piece
+          (has_stepped thread_at moved own_moved left world effect None refl)
           (record {
             acted = all_acted;
-            clocks = clocks_still g first is none_rests who w x st c t a at_c r None runs_r moved own_moved left world effect None;
+            clocks = clocks_still thread_at moved own_moved left world effect None;
             trace = st.trace;
             roles = roles';
             reserves = reserves';
@@ -707,8 +711,8 @@ module _ (g : Setting) (first : Roles) (is : IsImageOf g first) (who : Roles) (w
             far_role = λ d u ne. far_by d u ne (roles_after.place g who c t st.roles r runs_r p ps parents n sync d u);
             rests = λ u m none. let both : false ≡ true = none in absurd (let z : ⊥ = cc in z);
             far_rests = λ d u ne none. let both : false ≡ true = none in absurd (let z : ⊥ = cc in z);
-            steps = λ u m. steps_still g first is none_rests who w x st c t a at_c r None runs_r moved own_moved left world effect None u m;
-            far_steps = λ d u ne. far_steps_still g first is none_rests who w x st c t a at_c r None runs_r moved own_moved left world effect None d u ne;
+            steps = λ u m. steps_still thread_at moved own_moved left world effect None u m;
+            far_steps = λ d u ne. far_steps_still thread_at moved own_moved left world effect None d u ne;
             stand = λ u m. stand_by u m (roles_after.place g who c t st.roles r runs_r p ps parents n sync c u);
             links = st.links;
             wired = wired_still g who who' w.machine watched'.machine c a left x.state world transfers_still at_c refl refl refl st.wired;

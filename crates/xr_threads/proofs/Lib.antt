@@ -50,6 +50,7 @@ pub mod Less
 pub mod Lines
 pub mod Links
 pub mod Lives
+pub mod Moments
 pub mod Moves
 pub mod Named
 pub mod NamedBegins

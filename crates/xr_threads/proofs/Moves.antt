@@ -29,6 +29,7 @@ use Rattle.xr_threads.proofs.Alone.{alone_behind}
 use Rattle.xr_threads.proofs.Apartness.{apart_of_runners, laid_of_role, own_variables}
 use Rattle.xr_threads.proofs.Holding.{far_wanted, loose_far}
 use Rattle.xr_threads.proofs.Lines.{line_known}
+use Rattle.xr_threads.proofs.Moments.{Moment}
 use Rattle.xr_threads.proofs.Plains.{plain_behind}
 use Rattle.xr_threads.proofs.Reserves.{laws_behind}
 use Rattle.xr_threads.proofs.Rooms.{spare_for}
@@ -304,7 +305,9 @@ same_runner r s hand other e = ap (runner_in r) e
 pub same_hand : (r s : Runner) (hand other : Option Hand) → used_by r hand ≡ used_by s other → hand ≡ other
 same_hand r s hand other e = ap hand_in e
 
-module _ (g : Setting) (first : Roles) (is : IsImageOf g first) (may_rest : (core thread : ℕ) → Bool) (who : Roles) (w : Watched) (x : Told (of_kernel g.program)) (st : Standing g may_rest who w x) where
+module _ {may_rest : (core thread : ℕ) → Bool} (moment : Moment may_rest) where
+  open moment use {setting as g, first, image as is, roles as who, watched as w, told as x, standing as st}
+
   -- each core that has a runner is there
   pub core_of : (d u : ℕ) (s : Runner) (other : Option Hand) → who d u ≡ used_by s other → (e : CoreState) × (slice_get w.machine.cores d ≡ Some e)
   core_of d u s other runs_s =

@@ -38,6 +38,7 @@ use Rattle.xr_threads.proofs.ChannelWorlds.{offered, offers_word}
 use Rattle.xr_threads.proofs.EndSteps as step
 use Rattle.xr_threads.proofs.EndSteps.{gone_on}
 use Rattle.xr_threads.proofs.InTransfers.{IsFollowed, followed, in_phase, pauses}
+use Rattle.xr_threads.proofs.Moments.{BranchAt, Moment, ThreadAt}
 use Rattle.xr_threads.proofs.OwnTransfers.{alone_still, does_so, has_behind, less}
 use Rattle.xr_threads.proofs.Protocols.{offer_sent}
 use Rattle.xr_threads.proofs.Shrinks.{transfer_shrinks}
@@ -51,10 +52,13 @@ use Rattle.xr_wires.proofs.Near as near
 use Rattle.xr_wires.proofs.Near.{IsNear, Next, NearSend, sends_makes, sends_pauses}
 use Rattle.xr_wires.proofs.Updates.{moved_to}
 
-module _ (g : Setting) (first : Roles) (is : IsImageOf g first) (who : Roles) (w : Watched) (x : Told (of_kernel g.program)) (st : Standing g none_rests who w x)
-    (c t : ℕ) (a : CoreState) (at_c : slice_get w.machine.cores c ≡ Some a) (r : Runner) (runs_r : who c t ≡ used_by r None)
-    (branch : Branch) (known : slice_get x.state.branches r.branch ≡ Some branch) (stand : Stand g r false None a x.state (w.lives c t) x.actions branch) (on : branch.mode ≡ runs)
-    (none : r.transfer ≡ None) (j : ℕ) (few : j ≤ stand.left) (h : Offers g r j (record { core = a; world = x.state; hand = None })) where
+module _ {moment : Moment none_rests} {thread_at : ThreadAt moment None} (branch_at : BranchAt thread_at)
+    (on : branch_at.branch.mode ≡ runs) (none : thread_at.runner.transfer ≡ None) (j : ℕ) (few : j ≤ branch_at.stand.left)
+    (h : Offers moment.setting thread_at.runner j (record { core = thread_at.state; world = moment.told.state; hand = None })) where
+  open moment use {setting as g, image as is, roles as who, watched as w, told as x, standing as st}
+  open thread_at use {core as c, thread as t, state as a, at_core as at_c, runner as r, runs as runs_r}
+  open branch_at use {branch, known, stand}
+
   abbrev Goal : Type 0
   Goal = IsFollowed g who w x c t r a (slot (home g r) a r.thread)
 
@@ -93,22 +97,22 @@ module _ (g : Setting) (first : Roles) (is : IsImageOf g first) (who : Roles) (w
 
   -- the channel's line, and the end of its side
   abbrev line : ℕ
-  line = begin.line g first is none_rests who w x st c t r None runs_r none branch known on ch side is_channel uses stands
+  line = begin.line moment c t r None runs_r none branch known on ch side is_channel uses stands
 
   at : IsLine g.program line ch
-  at = begin.line_there g first is none_rests who w x st c t r None runs_r none branch known on ch side is_channel uses stands
+  at = begin.line_there moment c t r None runs_r none branch known on ch side is_channel uses stands
 
   there : AreSidesOn g.program ch c
-  there = begin.core_there g first is none_rests who w x st c t r None runs_r none branch known on ch side is_channel uses stands
+  there = begin.core_there moment c t r None runs_r none branch known on ch side is_channel uses stands
 
   abbrev boxes : List Inboxes
   boxes = boxes_in g.program x.state.inboxes
 
   abbrev own_end : ChanEnd
-  own_end = end g first is who w x st c t a at_c r None runs_r ch side line at there
+  own_end = end thread_at ch side line at there
 
   near_it : IsNear g.image.chans w.machine.cores line (pair_of g.program ch) side (home g r) a own_end
-  near_it = is_near g first is who w x st c t a at_c r None runs_r ch side line at there
+  near_it = is_near thread_at ch side line at there
 
   abbrev thread : Thread
   thread = running r.tie h.pc h.regs
@@ -120,7 +124,7 @@ module _ (g : Setting) (first : Roles) (is : IsImageOf g first) (who : Roles) (w
   once k other = one_line g is.lines k line ch other at
 
   alone : HasAlone x.state.branches ch side r.branch
-  alone = begin.alone_there g first is none_rests who w x st c t r None runs_r none branch known on ch side is_channel uses stands
+  alone = begin.alone_there moment c t r None runs_r none branch known on ch side is_channel uses stands
 
   -- the branch offers its word, and waits
   abbrev items : List Item
@@ -168,7 +172,7 @@ module _ (g : Setting) (first : Roles) (is : IsImageOf g first) (who : Roles) (w
       here = gone_on g r a h.pc h.regs h.regs h.here es;
       steps = offer_sent g r ch side h.output.pos (IsBehind g r rest j) h.pc h.regs h.value h.steps;
       fits = (is_channel, h.fits.1);
-      has = has_behind g first is who w x st c t a at_c r runs_r branch known stand on h.pc h.regs h.regs h.here es items None world acted next refl has refl (Some transfer);
+      has = has_behind branch_at on h.pc h.regs h.regs h.here es items None world acted next refl has refl (Some transfer);
     }
 
     stands_inside : StandsWith g s false (Some transfer) items (2 + j + cost g r) behind
@@ -176,23 +180,23 @@ module _ (g : Setting) (first : Roles) (is : IsImageOf g first) (who : Roles) (w
       j,
       omega arith,
       inside_as g (shrunk r items) (Some transfer) transfer items j behind refl
-          (transfer_shrinks g r items (less g first is who w x st c t a at_c r runs_r branch known stand on h.pc h.regs h.regs h.here es items None world acted next refl has refl (Some transfer)) transfer j behind inside),
+          (transfer_shrinks g r items (less branch_at on h.pc h.regs h.regs h.here es items None world acted next refl has refl (Some transfer)) transfer j behind inside),
     )
 
     made_so : slot (home g r) a r.thread ≡ Made left None [] →
         Next g.image.chans is.lines.wired w.machine.cores boxes st.wired.ghosts st.wired.local line (pair_of g.program ch) side (home g r) a own_end near_it r.thread thread left (boxed boxes line (other_side side) (parcels boxes line (other_side side) ++ offer h.value ∷ [])) (spot (sends_end h.value) false) → Goal
     made_so is_made made =
-        let local = left_local g first is who w x st c t a at_c r None runs_r ch side line at there left _ (spot (sends_end h.value) false) made.local in
+        let local = left_local thread_at ch side line at there left _ (spot (sends_end h.value) false) made.local in
         followed none_rests (λ d u ne. refl) left None (ap (stepped (home g r) w.machine r.core r.thread a) is_made)
-        (does_so g first is who w x st c t a at_c r runs_r branch known stand on h.pc h.regs h.regs h.here es items None world acted next refl has refl (Some transfer)
+        (does_so branch_at on h.pc h.regs h.regs h.here es items None world acted next refl has refl (Some transfer)
         none_rests j (2 + j + cost g r) few (omega arith) stands_inside
         (wired_moves g is.lines who w.machine x.state st.wired c t a at_c r None runs_r s None ch side line at there (sends_end h.value)
-        (begin.begins g first is none_rests who w x st c t r None runs_r none branch known on ch side is_channel uses stands s (sends_end h.value) refl)
+        (begin.begins moment c t r None runs_r none branch known on ch side is_channel uses stands s (sends_end h.value) refl)
         left _ world refl made.size as_many
         (subst (λ l. Local g.image.chans (slice_set w.machine.cores c left) l (moved_to st.wired.ghosts line side (spot (sends_end h.value) false) [])) (sym boxes_then) local))
         (λ which e.
         subst (λ (k : Transfer). HasAlone world.branches k.channel k.side r.branch) (same_Some transfer which e)
-        (alone_still g first is who w x st c t a at_c r runs_r branch known stand on h.pc h.regs h.regs h.here es items None world acted next refl has refl (Some transfer) ch side is_channel.known alone)))
+        (alone_still branch_at on h.pc h.regs h.regs h.here es items None world acted next refl has refl (Some transfer) ch side is_channel.known alone)))
 
   abbrev Row : Type 0
   Row = NearSend g.image.chans is.lines.wired w.machine.cores boxes st.wired.ghosts st.wired.local line (pair_of g.program ch) side (home g r) a own_end near_it r.thread thread (word_tokens h.value) (boxed boxes line (other_side side) (parcels boxes line (other_side side) ++ offer h.value ∷ [])) (spot (sends_end h.value) false)
@@ -204,6 +208,6 @@ module _ (g : Setting) (first : Roles) (is : IsImageOf g first) (who : Roles) (w
 
   pub offer_followed : Goal
   offer_followed =
-      by_row ((acts_there g first is who w x st c t a at_c r None runs_r ch side line at there r.tie h.output.pos (sends (word_tokens h.value)) h.pc h.regs h.steps.0).by a own_end h.here (end_is g first is who w x st c t a at_c r None runs_r ch side line at there))
+      by_row ((acts_there thread_at ch side line at there r.tie h.output.pos (sends (word_tokens h.value)) h.pc h.regs h.steps.0).by a own_end h.here (end_is thread_at ch side line at there))
       (near.out_plain g.image.chans is.lines.wired w.machine.cores boxes st.wired.ghosts st.wired.local line (pair_of g.program ch) side (home g r) a own_end near_it r.thread thread h.value
-      (begin.spot_there g first is none_rests who w x st c t r None runs_r none branch known on ch side is_channel uses stands))
+      (begin.spot_there moment c t r None runs_r none branch known on ch side is_channel uses stands))

@@ -33,6 +33,7 @@ use Rattle.xr_threads.specs.Wired.{AreWired, HasAlone}
 use Rattle.xr_threads.proofs.Alone.{alone_behind}
 use Rattle.xr_threads.proofs.Counts.{far_counts, living_after}
 use Rattle.xr_threads.proofs.Holding.{LeavesLoose, loose_behind}
+use Rattle.xr_threads.proofs.Moments.{Moment, ThreadAt}
 use Rattle.xr_threads.proofs.Moves.{Effect, channel_known, laid_at, same_hand, same_runner, stands_at, works_at}
 use Rattle.xr_threads.proofs.NamedLinks.{own_linked, told_one}
 use Rattle.xr_threads.proofs.NamedPieces.{Goes}
@@ -103,8 +104,11 @@ pub record OwnStep (g : Setting) (r : Runner) (c : ℕ) (a : CoreState) (x : Wor
   pub holds : HoldsStore g r (record { core = left; world = world; hand = None })
   pub ports : PortsStand g r (record { core = left; world = world; hand = None })
 
-module _ (g : Setting) (first : Roles) (is : IsImageOf g first) (who : Roles) (w : Watched) (x : Told (of_kernel g.program)) (st : Standing g none_rests who w x)
-    (c t : ℕ) (a : CoreState) (at_c : slice_get w.machine.cores c ≡ Some a) (r : Runner) (runs_r : who c t ≡ used_by r None) (e : OwnStep g r c a x.state) where
+module _ {moment : Moment none_rests} (thread_at : ThreadAt moment None)
+    (e : OwnStep moment.setting thread_at.runner thread_at.core thread_at.state moment.told.state) where
+  open moment use {setting as g, first, image as is, roles as who, watched as w, told as x, standing as st}
+  open thread_at use {core as c, thread as t, state as a, at_core as at_c, runner as r, runs as runs_r}
+
   pub core_is : r.core ≡ c
   core_is = st.roles.core c t r None runs_r
 
@@ -133,7 +137,7 @@ module _ (g : Setting) (first : Roles) (is : IsImageOf g first) (who : Roles) (w
   -- what its runner may not change, its first item doesn't
   own_store : (v : ℕ) → r.footprint.changes v ≡ false → words_of e.world.store v ≡ words_of x.state.store v
   own_store v unchanged =
-      let works = works_at g first is none_rests who w x st c t r None runs_r in
+      let works = works_at moment c t r None runs_r in
       let same : works.branch ≡ e.branch = same_Some works.branch e.branch (sym works.known ∙ e.known) in
       e.is_next.store v (first_unchanged e.branch.items v (ap (λ (b : Branch). by_items (change v) b.items) (sym same) ∙ ap (λ (f : Footprint). f.changes v) (sym works.footprint) ∙ unchanged))
 
@@ -212,7 +216,7 @@ module _ (g : Setting) (first : Roles) (is : IsImageOf g first) (who : Roles) (w
   core_of_branch = stand_core ∙ core_is
     where
       stand_core : e.branch.core ≡ r.core
-      stand_core = (subst (λ o. SomeIs o (Stand g r false None a x.state (w.lives c t) x.actions)) e.known (stands_at g first is none_rests who w x st c t a r None at_c runs_r)).core
+      stand_core = (subst (λ o. SomeIs o (Stand g r false None a x.state (w.lives c t) x.actions)) e.known (stands_at moment c t a r None at_c runs_r)).core
 
   pub own_far_roots : (d : ℕ) → d ≢ c → living_on d e.world.branches ≡ living_on d x.state.branches
   own_far_roots d ne =
@@ -291,7 +295,7 @@ module _ (g : Setting) (first : Roles) (is : IsImageOf g first) (who : Roles) (w
 
     loose_on : 1 ≤ threads_on g.program c → AreLoose g who_on c e.left e.world
     loose_on some =
-        loose_behind g who who_on c a e.left x.state e.world r core_is (laid_at g first is none_rests who w x st c t r None runs_r)
+        loose_behind g who who_on c a e.left x.state e.world r core_is (laid_at moment c t r None runs_r)
         (st.loose c a at_c some) leaves_loose e.holds e.ports
         (λ v nobody no u i other at. ⊎_elim (λ (same : r ≡ i). subst (λ (k : Runner). k.footprint.changes v ≡ false) same no) (λ now. nobody u i other now) (runner_still u i other at))
         (λ v wanted.
@@ -323,7 +327,7 @@ module _ (g : Setting) (first : Roles) (is : IsImageOf g first) (who : Roles) (w
         (branch_cases n branch there)
 
     abbrev pub watched_on : Watched
-    watched_on = watched g first is none_rests who w x st c t a at_c r None runs_r (only_thread t) (eq-eqb t t refl) e.left e.world own_effect e.made
+    watched_on = watched thread_at (only_thread t) (eq-eqb t t refl) e.left e.world own_effect e.made
 
     -- where its thread is in the transfer in which it was, all threads are
     own_transfers : e.transfer ≡ r.transfer → TransfersAsBefore who who_on
@@ -381,11 +385,11 @@ module _ (g : Setting) (first : Roles) (is : IsImageOf g first) (who : Roles) (w
             piece = piece;
             world = e.world;
             acted = all_acted;
-            standing = answered g first is none_rests who w x st c t a at_c r None runs_r o self e.left e.world own_effect may_rest' who_on watched_on piece
-                (has_stepped g first is none_rests who w x st c t a at_c r None runs_r o self e.left e.world own_effect e.made size)
+            standing = answered thread_at o self e.left e.world own_effect may_rest' who_on watched_on piece
+                (has_stepped thread_at o self e.left e.world own_effect e.made size)
                 (record {
                   acted = all_acted;
-                  clocks = clocks_still g first is none_rests who w x st c t a at_c r None runs_r o self e.left e.world own_effect e.made;
+                  clocks = clocks_still thread_at o self e.left e.world own_effect e.made;
                   trace = ap (λ l. noted l e.made) st.trace ∙ sym e.is_next.trace;
                   roles = roles_go_on g who c t st.roles r None runs_r s None (record { seated = seated; held = refl; sync = λ n f. inl f; branches = λ n m. inl m });
                   reserves = reserves_of_others g who e.world (reserves_behind g who x.state st.lawful st.reserves piece e.world all_acted) who_on gives_as_before;
@@ -397,8 +401,8 @@ module _ (g : Setting) (first : Roles) (is : IsImageOf g first) (who : Roles) (w
                   far_role = λ d u ne. role_far who c t (used_by s None) d u ne;
                   rests = λ u m none. absurd (false_true none);
                   far_rests = λ d u ne none. absurd (false_true none);
-                  steps = λ u m. steps_still g first is none_rests who w x st c t a at_c r None runs_r o self e.left e.world own_effect e.made u m;
-                  far_steps = λ d u ne. far_steps_still g first is none_rests who w x st c t a at_c r None runs_r o self e.left e.world own_effect e.made d u ne;
+                  steps = λ u m. steps_still thread_at o self e.left e.world own_effect e.made u m;
+                  far_steps = λ d u ne. far_steps_still thread_at o self e.left e.world own_effect e.made d u ne;
                   stand = own_stand;
                   links = st.links;
                   wired = wired;

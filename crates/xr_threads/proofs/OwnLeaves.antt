@@ -21,6 +21,7 @@ use Rattle.xr_threads.specs.Standing.{AreLoose, IsRun, Standing, Stands, none_re
 use Rattle.xr_threads.specs.Transfers.{Transfer}
 use Rattle.xr_threads.specs.Turns.{IsFree}
 use Rattle.xr_threads.proofs.Holding.{loose_behind}
+use Rattle.xr_threads.proofs.Moments.{Moment, ThreadAt}
 use Rattle.xr_threads.proofs.Moves.{Effect, laid_at, same_runner}
 use Rattle.xr_threads.proofs.NamedLinks.{leaves_linked}
 use Rattle.xr_threads.proofs.OwnEvents.{OwnStep, all_acted, at_left, branch_cases, core_is, leaves_loose, only_thread, others_there, others_used, own_effect, own_far_roots, own_made, own_placed, own_roots, same_role, thread_is}
@@ -32,17 +33,21 @@ use Rattle.xr_threads.proofs.Steps.{answered, clocks_still, far_steps_still, has
 use Rattle.xr_threads.proofs.Usage.{used_leave}
 use Rattle.xr_threads.proofs.Wiring.{TransfersAsBefore, wired_still}
 
-module _ (g : Setting) (first : Roles) (is : IsImageOf g first) (who : Roles) (w : Watched) (x : Told (of_kernel g.program)) (st : Standing g none_rests who w x)
-    (c t : ℕ) (a : CoreState) (at_c : slice_get w.machine.cores c ≡ Some a) (r : Runner) (runs_r : who c t ≡ used_by r None) (e : OwnStep g r c a x.state)
-    (tie : r.tie ≡ None) (parents : r.parents ≡ []) (over : has_ended e.next.mode ≡ true) (free : IsFree (slice_get e.left.threads r.thread)) where
+module _ {moment : Moment none_rests} (thread_at : ThreadAt moment None)
+    (e : OwnStep moment.setting thread_at.runner thread_at.core thread_at.state moment.told.state)
+    (tie : thread_at.runner.tie ≡ None) (parents : thread_at.runner.parents ≡ []) (over : has_ended e.next.mode ≡ true)
+    (free : IsFree (slice_get e.left.threads thread_at.runner.thread)) where
+  open moment use {setting as g, roles as who, watched as w, told as x, standing as st}
+  open thread_at use {core as c, thread as t, state as a, at_core as at_c, runner as r, runs as runs_r}
+
   abbrev piece : List Action
   piece = e.action ∷ []
 
   abbrev effect : Effect g who c t r None (only_thread t) a e.left x.state e.world
-  effect = own_effect g first is who w x st c t a at_c r runs_r e
+  effect = own_effect thread_at e
 
   acted : acts_all g.program g.stimulus (Some x.state) piece ≡ Some e.world
-  acted = all_acted g first is who w x st c t a at_c r runs_r e
+  acted = all_acted thread_at e
 
   abbrev who_off : Roles
   who_off = with_role who c t unused
@@ -63,8 +68,8 @@ module _ (g : Setting) (first : Roles) (is : IsImageOf g first) (who : Roles) (w
 
   loose_off : 1 ≤ threads_on g.program c → AreLoose g who_off c e.left e.world
   loose_off some =
-      loose_behind g who who_off c a e.left x.state e.world r (core_is g first is who w x st c t a at_c r runs_r e) (laid_at g first is none_rests who w x st c t r None runs_r)
-      (st.loose c a at_c some) (leaves_loose g first is who w x st c t a at_c r runs_r e) e.holds e.ports
+      loose_behind g who who_off c a e.left x.state e.world r (core_is thread_at e) (laid_at moment c t r None runs_r)
+      (st.loose c a at_c some) (leaves_loose thread_at e) e.holds e.ports
       (λ v nobody no u i other at. ⊎_elim (λ (same : r ≡ i). subst (λ (k : Runner). k.footprint.changes v ≡ false) same no) (λ now. nobody u i other now) (still_off c u i other at))
       (λ v wanted. inl (record { thread = wanted.thread; runner = wanted.runner; hand = wanted.hand; runs = before_off c wanted.thread wanted.runner wanted.hand wanted.runs; parent = wanted.parent; waits = wanted.waits; uses = wanted.uses }))
       (λ q nobody no u i other at. ⊎_elim (λ (same : r ≡ i). subst (λ (k : Runner). k.footprint.ports q ≡ false) same no) (λ now. nobody u i other now) (still_off c u i other at))
@@ -83,7 +88,7 @@ module _ (g : Setting) (first : Roles) (is : IsImageOf g first) (who : Roles) (w
       (λ (same : r ≡ q.runner). absurd (h.0 (only_own n (subst (λ (k : Runner). IsAmong (own_branches k) n) (sym same) q.branch))))
       (λ now. record { core = q.core; thread = q.thread; runner = q.runner; hand = q.hand; runs = now; branch = q.branch })
       (still_off q.core q.thread q.runner q.hand q.runs))
-      (branch_cases g first is who w x st c t a at_c r runs_r e n branch there)
+      (branch_cases thread_at e n branch there)
     where
       true_false : true ≡ false → ⊥
       true_false f = cc
@@ -92,7 +97,7 @@ module _ (g : Setting) (first : Roles) (is : IsImageOf g first) (who : Roles) (w
   gives_off = record { before = λ d u n i at. (i, n, before_off d u i (giving_back n) at, refl) }
 
   abbrev pub watched_off : Watched
-  watched_off = watched g first is none_rests who w x st c t a at_c r None runs_r (only_thread t) (eq-eqb t t refl) e.left e.world effect e.made
+  watched_off = watched thread_at (only_thread t) (eq-eqb t t refl) e.left e.world effect e.made
 
   -- it was in no transfer
   off_transfers : r.transfer ≡ None → TransfersAsBefore who who_off
@@ -117,21 +122,21 @@ module _ (g : Setting) (first : Roles) (is : IsImageOf g first) (who : Roles) (w
         piece = piece;
         world = e.world;
         acted = acted;
-        standing = answered g first is none_rests who w x st c t a at_c r None runs_r o self e.left e.world effect none_rests who_off watched_off piece
-            (has_stepped g first is none_rests who w x st c t a at_c r None runs_r o self e.left e.world effect e.made size)
+        standing = answered thread_at o self e.left e.world effect none_rests who_off watched_off piece
+            (has_stepped thread_at o self e.left e.world effect e.made size)
             (record {
               acted = acted;
-              clocks = clocks_still g first is none_rests who w x st c t a at_c r None runs_r o self e.left e.world effect e.made;
+              clocks = clocks_still thread_at o self e.left e.world effect e.made;
               trace = ap (λ l. noted l e.made) st.trace ∙ sym e.is_next.trace;
               roles = roles_leave g who c t st.roles r runs_r tie parents;
               reserves = reserves_of_others g who e.world (reserves_behind g who x.state st.lawful st.reserves piece e.world acted) who_off gives_off;
-              used = used_leave g who c t st.roles r runs_r parents a e.left (st.used c a at_c) (others_used g first is who w x st c t a at_c r runs_r e) e.syncs (subst (λ k. IsFree (slice_get e.left.threads k)) (thread_is g first is who w x st c t a at_c r runs_r e) free);
-              same_role = same_role g first is who w x st c t a at_c r runs_r e unused;
+              used = used_leave g who c t st.roles r runs_r parents a e.left (st.used c a at_c) (others_used thread_at e) e.syncs (subst (λ k. IsFree (slice_get e.left.threads k)) (thread_is thread_at e) free);
+              same_role = same_role thread_at e unused;
               far_role = λ d u ne. role_far who c t unused d u ne;
               rests = λ u m none. none;
               far_rests = λ d u ne none. none;
-              steps = λ u m. steps_still g first is none_rests who w x st c t a at_c r None runs_r o self e.left e.world effect e.made u m;
-              far_steps = λ d u ne. far_steps_still g first is none_rests who w x st c t a at_c r None runs_r o self e.left e.world effect e.made d u ne;
+              steps = λ u m. steps_still thread_at o self e.left e.world effect e.made u m;
+              far_steps = λ d u ne. far_steps_still thread_at o self e.left e.world effect e.made d u ne;
               stand = λ u m.
                   let at : u ≡ t = eqb-true u t m in
                   let actions = (told_by g.program g.stimulus x piece e.world).actions in
@@ -142,11 +147,11 @@ module _ (g : Setting) (first : Roles) (is : IsImageOf g first) (who : Roles) (w
                   let both : unused ≡ used_by i hand = sym (role_here who c t unused) ∙ ap (who_off c) (sym (eqb-true u t m)) ∙ at in
                   cc;
               loose = loose_off;
-              roots = own_roots g first is who w x st c t a at_c r runs_r e;
-              far_roots = own_far_roots g first is who w x st c t a at_c r runs_r e;
-              placed = own_placed g first is who w x st c t a at_c r runs_r e;
+              roots = own_roots thread_at e;
+              far_roots = own_far_roots thread_at e;
+              placed = own_placed thread_at e;
               run = run_off;
-              made = own_made g first is who w x st c t a at_c r runs_r e;
+              made = own_made thread_at e;
             });
-        named = λ names. leaves_linked g none_rests who w x st names watched_off.machine c t a e.left at_c (at_left g first is who w x st c t a at_c r runs_r e) r runs_r e.action e.own e.world e.next e.branch e.known e.birth e.is_next.branches e.syncs (others_there g first is who w x st c t a at_c r runs_r e);
+        named = λ names. leaves_linked g none_rests who w x st names watched_off.machine c t a e.left at_c (at_left thread_at e) r runs_r e.action e.own e.world e.next e.branch e.known e.birth e.is_next.branches e.syncs (others_there thread_at e);
       }

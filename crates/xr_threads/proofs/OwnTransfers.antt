@@ -33,6 +33,7 @@ use Rattle.xr_threads.proofs.EndSteps as step
 use Rattle.xr_threads.proofs.EndSteps.{gone_on, tied_still, touches}
 use Rattle.xr_threads.proofs.Less.{uses_less}
 use Rattle.xr_threads.proofs.Lives.{own_life}
+use Rattle.xr_threads.proofs.Moments.{BranchAt, Moment, ThreadAt}
 use Rattle.xr_threads.proofs.OwnEvents.{OwnStep, goes_on_answered, watched_on}
 use Rattle.xr_threads.proofs.Seats.{with_role}
 use Rattle.xr_threads.proofs.Shrinks.{IsWithin, within_of_uses}
@@ -47,12 +48,19 @@ pays_for most greatest steps left j further actions more is bound few enough som
     let grown = mul-le-mul_left most le in
     omega (arith, grown)
 
-module _ (g : Setting) (first : Roles) (is : IsImageOf g first) (who : Roles) (w : Watched) (x : Told (of_kernel g.program)) (st : Standing g none_rests who w x)
-    (c t : ℕ) (a : CoreState) (at_c : slice_get w.machine.cores c ≡ Some a) (r : Runner) (runs_r : who c t ≡ used_by r None)
-    (branch : Branch) (known : slice_get x.state.branches r.branch ≡ Some branch) (stand : Stand g r false None a x.state (w.lives c t) x.actions branch) (on : branch.mode ≡ runs)
-    (pc : ℕ) (regs regs' : Regs) (here : slice_get a.threads r.thread ≡ Some (running r.tie pc regs)) (ends : List ChanEnd)
-    (items : List Item) (made : Option Record) (world : World) (acted : acts g.program g.stimulus x.state (go r.branch) ≡ Some world)
-    (is_next : IsNext g r x.state world branch (record branch { items = items }) made) (store : world.store ≡ x.state.store) (has : Has g r branch.items (record { core = a; world = x.state; hand = None })) (unwatched : is_watching items ≡ false) (transfer : Option Transfer) where
+module _ {moment : Moment none_rests} {thread_at : ThreadAt moment None} (branch_at : BranchAt thread_at)
+    (on : branch_at.branch.mode ≡ runs) (pc : ℕ) (regs regs' : Regs)
+    (here : slice_get thread_at.state.threads thread_at.runner.thread ≡ Some (running thread_at.runner.tie pc regs))
+    (ends : List ChanEnd) (items : List Item) (made : Option Record) (world : World)
+    (acted : acts moment.setting.program moment.setting.stimulus moment.told.state (go thread_at.runner.branch) ≡ Some world)
+    (is_next : IsNext moment.setting thread_at.runner moment.told.state world branch_at.branch (record branch_at.branch { items = items }) made)
+    (store : world.store ≡ moment.told.state.store)
+    (has : Has moment.setting thread_at.runner branch_at.branch.items (record { core = thread_at.state; world = moment.told.state; hand = None }))
+    (unwatched : is_watching items ≡ false) (transfer : Option Transfer) where
+  open moment use {setting as g, image as is, roles as who, watched as w, told as x, standing as st}
+  open thread_at use {core as c, thread as t, state as a, runner as r}
+  open branch_at use {branch, known, stand}
+
   abbrev pub left : CoreState
   left = step.left g r a pc regs regs' here ends
 
@@ -90,7 +98,7 @@ module _ (g : Setting) (first : Roles) (is : IsImageOf g first) (who : Roles) (w
   s = record r { footprint = footprint_of items; transfer = transfer }
 
   abbrev pub watched : Watched
-  watched = watched_on g first is who w x st c t a at_c r runs_r own_step none_rests
+  watched = watched_on thread_at own_step none_rests
 
   abbrev more : ℕ → ℕ
   more = (told_by g.program g.stimulus x (go r.branch ∷ []) world).actions
@@ -135,7 +143,7 @@ module _ (g : Setting) (first : Roles) (is : IsImageOf g first) (who : Roles) (w
     core = stand.core;
     family = stand.family;
     footprint = refl;
-    parents = parents_behind g first is who w x st c t a at_c r runs_r branch known stand own_step;
+    parents = parents_behind branch_at own_step;
     thread = record { thread = running r.tie (pc + 1) regs'; there = gone_on g r a pc regs regs' here ends; tied = refl; events = events_on branch.mode items false on (sym unwatched); is = subst (λ m. ThreadIs r.parents m Running) (sym on) refl };
     in_hand = empty refl;
     sides = stand.sides;
@@ -158,4 +166,4 @@ module _ (g : Setting) (first : Roles) (is : IsImageOf g first) (who : Roles) (w
       AreWired g (with_role who c t (used_by s None)) watched.machine world →
       ((which : Transfer) → transfer ≡ Some which → HasAlone world.branches which.channel which.side r.branch) → Follows g rests who w x watched
   does_so rests j further few enough by wired alone =
-      goes_on_answered g first is who w x st c t a at_c r runs_r own_step rests wired alone refl (own_stand (rests c t) j further few enough by)
+      goes_on_answered thread_at own_step rests wired alone refl (own_stand (rests c t) j further few enough by)

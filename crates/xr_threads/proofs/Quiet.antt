@@ -26,11 +26,12 @@ use Rattle.xr_threads.specs.Images.{IsImageOf}
 use Rattle.xr_threads.specs.Parents.{Parent, branches_of}
 use Rattle.xr_threads.specs.Roles.{ParentWaits, ParentsWait, Roles, used_by}
 use Rattle.xr_threads.specs.Runners.{Setting, Runner, home}
-use Rattle.xr_threads.specs.ThreadViews.{LeadsIn, Rely, ThreadView}
+use Rattle.xr_threads.specs.ThreadViews.{LeadsIn, Rely, ThreadView, giving_back}
 use Rattle.xr_threads.specs.Standing.{HasEnded, IsRun, Stand, Standing, StandsBy, StandsWith, none_rests}
 use Rattle.xr_threads.specs.Transfers.{Transfer}
 use Rattle.xr_threads.specs.Turns.{CannotAct, GivesBack, Joins, Turn, Turns, begins, errs, frees, goes_on, offers, pauses, takes_in, waits_tied}
 use Rattle.xr_threads.proofs.Deciding.{done_each, joins_together}
+use Rattle.xr_threads.proofs.Moments.{Moment, thread_of}
 use Rattle.xr_threads.proofs.Moves.{core_of, kept_now, stands_at}
 use Rattle.xr_threads.proofs.QuietChannels.{inside_cannot, offers_goes, takes_in_cannot}
 use Rattle.xr_threads.proofs.QuietSlots as slots
@@ -100,14 +101,16 @@ all_still g x roots core family forest (p ∷ ps) first h not_yet b (inl e) =
 all_still g x roots core family forest (p ∷ ps) first h not_yet b (inr m) =
     all_still g x roots core family forest ps p.branch h.1 (waits_on g x core family p first h.0) b m
 
-module _ (g : Setting) (first : Roles) (is : IsImageOf g first) (who : Roles) (w : Watched) (x : Told (of_kernel g.program)) (st : Standing g none_rests who w x)
-    (quiet : IsQuietMachine g.image g.stimulus w.machine) where
+module _ (moment : Moment none_rests)
+    (quiet : IsQuietMachine moment.setting.image moment.setting.stimulus moment.watched.machine) where
+  open moment use {setting as g, image as is, roles as who, watched as w, told as x, standing as st}
+
   module _ (c t : ℕ) (r : Runner) (hand : Option Hand) (runs_r : who c t ≡ used_by r hand) (a : CoreState) (at_c : slice_get w.machine.cores c ≡ Some a) where
     abbrev now : ThreadView
     now = record { core = a; world = x.state; hand = hand }
 
     here : Rely g r now now
-    here = kept_now g first is none_rests who w x st c t a r hand at_c runs_r
+    here = kept_now moment c t a r hand at_c runs_r
 
     -- the thread's slot is no step
     not_made : (left : CoreState) (made : Option Record) → slot (home g r) a r.thread ≡ Made left made [] → ⊥
@@ -121,8 +124,8 @@ module _ (g : Setting) (first : Roles) (is : IsImageOf g first) (who : Roles) (w
     turn_cannot j none (frees h) = absurd (not_made h.left None h.made_is)
     turn_cannot j none (waits_tied h) = absurd (not_made h.left None h.made_is)
     turn_cannot j none (begins h) = absurd (not_made _ None h.goes)
-    turn_cannot j none (offers h) = absurd (offers_goes g first is who w x st quiet c t a at_c r hand runs_r j none h)
-    turn_cannot j none (takes_in h) = takes_in_cannot g first is who w x st quiet c t a at_c r hand runs_r j none h
+    turn_cannot j none (offers h) = absurd (offers_goes moment quiet c t a at_c r hand runs_r j none h)
+    turn_cannot j none (takes_in h) = takes_in_cannot moment quiet c t a at_c r hand runs_r j none h
 
     -- no step on the way to somewhere is left
     arrived : (Q : ThreadView → Type 0) (n : ℕ) → LeadsIn g r Q n now → Q now
@@ -135,7 +138,7 @@ module _ (g : Setting) (first : Roles) (is : IsImageOf g first) (who : Roles) (w
     not_resuming items j gives =
         let runs_back = runs_r ∙ ap (used_by r) gives.in_hand in
         not_made _ None
-        (gives.frees a gives.here (taken g first is who w x st c t a at_c r gives.sync runs_back) (nobody_tied g first is who w x st c t a at_c r gives.sync runs_back))
+        (gives.frees a gives.here (taken (thread_of moment c t a at_c r (giving_back gives.sync) runs_back)) (nobody_tied (thread_of moment c t a at_c r (giving_back gives.sync) runs_back)))
 
     -- a branch that runs waits
     running_still : (items : List Item) (left : ℕ) → StandsBy g r false items runs left now → CannotAct g r x.state
@@ -145,7 +148,7 @@ module _ (g : Setting) (first : Roles) (is : IsImageOf g first) (who : Roles) (w
         by None none (inl (n, j, few, on)) = turn_cannot j none (arrived (Turns g r j) n on now here)
         by None none (inr (inl (j, few, gives))) = absurd (not_resuming items j gives)
         by None none (inr (inr h)) = absurd h
-        by (Some transfer) its (j, few, h) = inside_cannot g first is who w x st quiet c t a at_c r hand runs_r transfer its items j h
+        by (Some transfer) its (j, few, h) = inside_cannot moment quiet c t a at_c r hand runs_r transfer its items j h
 
     -- one that has ended waits for others of its `par`
     joining_waits : (p : Parent) (ps : List Parent) (left : ℕ) → r.parents ≡ p ∷ ps → is_done (slice_get x.state.branches r.branch) ≡ true → HasEnded g r (p ∷ ps) left now → all_done x.state p.from p.count ≡ false
@@ -198,9 +201,9 @@ module _ (g : Setting) (first : Roles) (is : IsImageOf g first) (who : Roles) (w
   -- each branch that has not ended is some runner's, so it can do nothing
   run_still : (b : ℕ) → IsRun who b → IsStill g x.state b
   run_still b q =
-      let e = core_of g first is none_rests who w x st q.core q.thread q.runner q.hand q.runs in
+      let e = core_of moment q.core q.thread q.runner q.hand q.runs in
       runner_still q.core q.thread q.runner q.hand q.runs e.0 e.1 (slice_get x.state.branches q.runner.branch) refl
-      (stands_at g first is none_rests who w x st q.core q.thread e.0 q.runner q.hand e.1 q.runs) b q.branch
+      (stands_at moment q.core q.thread e.0 q.runner q.hand e.1 q.runs) b q.branch
 
   there_still : (b : ℕ) (branch : Branch) → slice_get x.state.branches b ≡ Some branch → (mode : Mode) → branch.mode ≡ mode → IsStill g x.state b
   there_still b branch known runs e = run_still b (st.run b branch known (ap has_ended e))

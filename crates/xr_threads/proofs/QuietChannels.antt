@@ -43,6 +43,7 @@ use Rattle.xr_threads.specs.Wired.{AreSidesOn, IsLine, boxes_in}
 use Rattle.xr_threads.proofs.ChannelBoxes.{line_parcels}
 use Rattle.xr_threads.proofs.ChannelEnds.{end, is_near}
 use Rattle.xr_threads.proofs.Evaluations.{item_acts}
+use Rattle.xr_threads.proofs.Moments.{Moment, thread_of}
 use Rattle.xr_threads.proofs.Moves.{works_at}
 use Rattle.xr_threads.proofs.QuietSides.{IsStuck, awaiting_sent, checks_wait, each_stuck, sends_wait, word_waits}
 use Rattle.xr_threads.proofs.TransferBegins as begins
@@ -107,8 +108,10 @@ module _ (g : Setting) (r : Runner) (x : World) (branch : Branch) (item : Item) 
         (ap (does_item (step_of g.program g.stimulus x r.branch branch rest)) is
         ∙ answer_waits (step_of g.program g.stimulus x r.branch branch rest) channel side false stands is_outside pos nothing)
 
-module _ (g : Setting) (first : Roles) (is : IsImageOf g first) (who : Roles) (w : Watched) (x : Told (of_kernel g.program)) (st : Standing g none_rests who w x)
-    (quiet : IsQuietMachine g.image g.stimulus w.machine) where
+module _ (moment : Moment none_rests)
+    (quiet : IsQuietMachine moment.setting.image moment.setting.stimulus moment.watched.machine) where
+  open moment use {setting as g, image as is, roles as who, watched as w, told as x, standing as st}
+
   abbrev boxes : List Inboxes
   boxes = boxes_in g.program x.state.inboxes
 
@@ -123,7 +126,7 @@ module _ (g : Setting) (first : Roles) (is : IsImageOf g first) (who : Roles) (w
     -- its branch has the runner's sides
     sides_are : (branch : Branch) → slice_get x.state.branches r.branch ≡ Some branch → branch.sides ≡ r.sides
     sides_are branch known =
-        let works = works_at g first is none_rests who w x st c t r hand runs_r in
+        let works = works_at moment c t r hand runs_r in
         ap (λ (b : Branch). b.sides) (same_Some branch works.branch (sym known ∙ works.known)) ∙ works.sides
 
     -- it stands on the side
@@ -136,28 +139,28 @@ module _ (g : Setting) (first : Roles) (is : IsImageOf g first) (who : Roles) (w
       its_pair = pair_of g.program channel
 
       abbrev its_end : ChanEnd
-      its_end = end g first is who w x st c t a at_c r hand runs_r channel side line is_line on_core
+      its_end = end (thread_of moment c t a at_c r hand runs_r) channel side line is_line on_core
 
       its_near : IsNear g.image.chans w.machine.cores line its_pair side (home g r) a its_end
-      its_near = is_near g first is who w x st c t a at_c r hand runs_r channel side line is_line on_core
+      its_near = is_near (thread_of moment c t a at_c r hand runs_r) channel side line is_line on_core
 
       -- a step that sends a token goes on
       one_sent : (f : Phase) → IsPlain f → ghosts.spots line side ≡ spot f false → nat_le 1 its_end.credits ≡ false → ⊥
       one_sent f plain spot_is few =
-          let s = each_stuck g first is who w x st quiet line channel (other_side side) is_line in
+          let s = each_stuck moment quiet line channel (other_side side) is_line in
           has_credit g.image.chans is.lines.wired w.machine.cores boxes ghosts st.wired.local line its_pair side (home g r) a its_end its_near f s.phase spot_is s.spot_is plain s.plain few
 
       -- and so does one that sends a word, between pieces
       four_sent : ghosts.spots line side ≡ spot between false → nat_le 4 its_end.credits ≡ false → ⊥
       four_sent spot_is few =
-          let s = each_stuck g first is who w x st quiet line channel (other_side side) is_line in
+          let s = each_stuck moment quiet line channel (other_side side) is_line in
           has_credits g.image.chans is.lines.wired w.machine.cores boxes ghosts st.wired.local line its_pair side (home g r) a its_end its_near between s.phase spot_is s.spot_is tt s.plain refl few
 
       -- a check of an END goes on
       end_come : ghosts.spots line side ≡ spot checks_end false → its_end.tokens ≡ [] → ⊥
-      end_come spot_is none = let s = each_stuck g first is who w x st quiet line channel (other_side side) is_line in by s s.stuck
+      end_come spot_is none = let s = each_stuck moment quiet line channel (other_side side) is_line in by s s.stuck
         where
-          by : (s : IsStuck g first is who w x st quiet line channel (other_side side)) → IsAwaiting s.phase ⊎ (Goes w.machine.cores boxes ghosts line its_pair (other_side side) → ⊥) → ⊥
+          by : (s : IsStuck moment quiet line channel (other_side side)) → IsAwaiting s.phase ⊎ (Goes w.machine.cores boxes ghosts line its_pair (other_side side) → ⊥) → ⊥
           by s (inl h) =
               let owed = nothing_owed g.image.chans is.lines.wired w.machine.cores boxes ghosts st.wired.local line its_pair side (home g r) a its_end its_near checks_end s.phase spot_is s.spot_is (awaiting_sent s.phase h) none refl in
               cc
@@ -165,9 +168,9 @@ module _ (g : Setting) (first : Roles) (is : IsImageOf g first) (who : Roles) (w
 
       -- where no answer comes, the inbox is empty
       no_answer : (v : ℕ) → ghosts.spots line side ≡ spot (awaits_ack (offers v)) false → its_end.tokens ≡ [] → parcels boxes line side ≡ []
-      no_answer v spot_is none = let s = each_stuck g first is who w x st quiet line channel (other_side side) is_line in by s s.stuck
+      no_answer v spot_is none = let s = each_stuck moment quiet line channel (other_side side) is_line in by s s.stuck
         where
-          by : (s : IsStuck g first is who w x st quiet line channel (other_side side)) → IsAwaiting s.phase ⊎ (Goes w.machine.cores boxes ghosts line its_pair (other_side side) → ⊥) → parcels boxes line side ≡ []
+          by : (s : IsStuck moment quiet line channel (other_side side)) → IsAwaiting s.phase ⊎ (Goes w.machine.cores boxes ghosts line its_pair (other_side side) → ⊥) → parcels boxes line side ≡ []
           by s (inl h) =
               nothing_came g.image.chans is.lines.wired w.machine.cores boxes ghosts st.wired.local line its_pair side (home g r) a its_end its_near (awaits_ack (offers v)) s.phase spot_is s.spot_is (awaiting_sent s.phase h) none refl refl
           by s (inr stays) =
@@ -194,10 +197,10 @@ module _ (g : Setting) (first : Roles) (is : IsImageOf g first) (who : Roles) (w
     begins_on : r.transfer ≡ None → (branch : Branch) (items : List Item) → Runs x.state r.branch branch items → (channel : ℕ) (side : Side) → IsChannel g r channel →
         IsTrue (by_items (the_channel channel) items) → slice_index_or r.sides channel None ≡ Some side → BeginsOn channel side
     begins_on none branch items on channel side used uses stands_in = record {
-      line = begins.line g first is none_rests who w x st c t r hand runs_r none branch on.known on.running channel side used its_use stands;
-      is_line = line_there g first is none_rests who w x st c t r hand runs_r none branch on.known on.running channel side used its_use stands;
-      on_core = core_there g first is none_rests who w x st c t r hand runs_r none branch on.known on.running channel side used its_use stands;
-      spot_is = spot_there g first is none_rests who w x st c t r hand runs_r none branch on.known on.running channel side used its_use stands;
+      line = begins.line moment c t r hand runs_r none branch on.known on.running channel side used its_use stands;
+      is_line = line_there moment c t r hand runs_r none branch on.known on.running channel side used its_use stands;
+      on_core = core_there moment c t r hand runs_r none branch on.known on.running channel side used its_use stands;
+      spot_is = spot_there moment c t r hand runs_r none branch on.known on.running channel side used its_use stands;
     }
       where
         stands : side_of branch channel ≡ Some side
@@ -214,7 +217,7 @@ module _ (g : Setting) (first : Roles) (is : IsImageOf g first) (who : Roles) (w
         let used = subst (PutsOutAt g r) h.on.is_channel h.fits.0.0.to in
         let at = begins_on none h.has.branch (does (kernel.output h.output) ∷ h.rest) h.has.runs channel side used (output_uses channel h.output h.rest h.on.is_channel) h.on.stands_in in
         four_sent channel side at.line at.is_line at.on_core at.spot_is
-        (sends_wait g first is who w x st quiet c t a at_c r hand runs_r channel side at.line at.is_line at.on_core h.output.pos h.pc h.regs h.here (word_tokens h.value) h.steps.0)
+        (sends_wait moment quiet c t a at_c r hand runs_r channel side at.line at.is_line at.on_core h.output.pos h.pc h.regs h.here (word_tokens h.value) h.steps.0)
 
     -- An input's IN waits for a word, and nothing is in the inbox.
     pub takes_in_cannot : (j : ℕ) → r.transfer ≡ None → TakesIn g r j view → CannotAct g r x.state
@@ -224,7 +227,7 @@ module _ (g : Setting) (first : Roles) (is : IsImageOf g first) (who : Roles) (w
         let runs = h.has.runs in
         let used = subst (TakesInAt g r) h.on.is_channel h.fits.0.0.from in
         let at = begins_on none h.has.branch (does (kernel.input h.input) ∷ h.rest) runs channel side used (input_uses channel h.input h.rest h.on.is_channel) h.on.stands_in in
-        let slow = word_waits g first is who w x st quiet c t a at_c r hand runs_r channel side at.line at.is_line at.on_core h.input.pos h.pc h.regs h.here R0 h.steps.0 in
+        let slow = word_waits moment quiet c t a at_c r hand runs_r channel side at.line at.is_line at.on_core h.input.pos h.pc h.regs h.here R0 h.steps.0 in
         let nothing = its_inbox channel side at.line at.is_line at.on_core (no_word channel side at.line at.is_line at.on_core at.spot_is slow.0 slow.1) in
         input_cannot g r x.state h.has.branch (does (kernel.input h.input)) h.rest runs channel side (stands_on h.has.branch runs.known channel side h.on.stands_in) (st.plain.outside r.branch h.has.branch runs.known) nothing h.input refl h.on.is_channel
 
@@ -250,10 +253,10 @@ module _ (g : Setting) (first : Roles) (is : IsImageOf g first) (who : Roles) (w
         sends_one : (f : Phase) → IsPlain f → ghosts.spots line side ≡ spot f false → (n : ℕ) → Acts (home g r) r.thread (end_place g r channel side) (running r.tie h.pc h.regs) h.pos (sends (control_token n ∷ [])) h.pc h.regs → ⊥
         sends_one f plain spot_is n acts =
             one_sent channel side line is_line at.2 f plain spot_is
-            (sends_wait g first is who w x st quiet c t a at_c r hand runs_r channel side line is_line at.2 h.pos h.pc h.regs h.here (control_token n ∷ []) acts)
+            (sends_wait moment quiet c t a at_c r hand runs_r channel side line is_line at.2 h.pos h.pc h.regs h.here (control_token n ∷ []) acts)
 
         nothing_there : (n : ℕ) → Acts (home g r) r.thread (end_place g r channel side) (running r.tie h.pc h.regs) h.pos (protocol.takes n) h.pc h.regs → (its_end channel side line is_line at.2).tokens ≡ []
-        nothing_there n acts = checks_wait g first is who w x st quiet c t a at_c r hand runs_r channel side line is_line at.2 h.pos h.pc h.regs h.here n acts
+        nothing_there n acts = checks_wait moment quiet c t a at_c r hand runs_r channel side line is_line at.2 h.pos h.pc h.regs h.here n acts
 
         awaits_cannot : (v : ℕ) → ghosts.spots line side ≡ spot (awaits_ack (offers v)) false → (its_end channel side line is_line at.2).tokens ≡ [] → (rest : List Item) → items ≡ awaits channel h.pos ∷ rest → CannotAct g r x.state
         awaits_cannot v spot_is none rest e =

@@ -31,6 +31,7 @@ use Rattle.xr_threads.specs.Transfers.{GoesWith, IsAwaiting, StopsIn, Transfer, 
 use Rattle.xr_threads.specs.Turns.{IsBehind, TakesSteps}
 use Rattle.xr_threads.specs.Wired.{AreSidesOn, IsLine, IsTransferring, Stance, at_rest, boxes_in, in_piece}
 use Rattle.xr_threads.proofs.ChannelEnds.{acts_there, end, end_is, is_near}
+use Rattle.xr_threads.proofs.Moments.{Moment, thread_of}
 use Rattle.xr_threads.proofs.Moves.{core_of as the_core, stands_at}
 use Rattle.xr_threads.proofs.QuietSlots.{lacks_credits, lacks_tokens, lacks_word}
 use Rattle.xr_threads.proofs.Wiring.{wired_inside}
@@ -84,8 +85,10 @@ none_between f l n is (may_check_end _ _ h) = cc
 none_between f l n is (may_answer _ _ h) = cc
 none_between f l n is (may_close _ _ h) = cc
 
-module _ (g : Setting) (first : Roles) (is : IsImageOf g first) (who : Roles) (w : Watched) (x : Told (of_kernel g.program)) (st : Standing g none_rests who w x)
-    (quiet : IsQuietMachine g.image g.stimulus w.machine) where
+module _ (moment : Moment none_rests)
+    (quiet : IsQuietMachine moment.setting.image moment.setting.stimulus moment.watched.machine) where
+  open moment use {setting as g, image as is, roles as who, watched as w, told as x, standing as st}
+
   abbrev boxes : List Inboxes
   boxes = boxes_in g.program x.state.inboxes
 
@@ -97,7 +100,7 @@ module _ (g : Setting) (first : Roles) (is : IsImageOf g first) (who : Roles) (w
       (channel : ℕ) (side : Side) (line : ℕ) (is_line : IsLine g.program line channel) (on_core : AreSidesOn g.program channel c)
       (pos : Pos) (pc : ℕ) (regs : Regs) (here : slice_get a.threads r.thread ≡ Some (running r.tie pc regs)) where
     abbrev own_end : ChanEnd
-    own_end = end g first is who w x st c t a at_c r hand runs_r channel side line is_line on_core
+    own_end = end (thread_of moment c t a at_c r hand runs_r) channel side line is_line on_core
 
     abbrev place_end : ℕ
     place_end = (place (pair_of g.program channel) side).end
@@ -107,11 +110,11 @@ module _ (g : Setting) (first : Roles) (is : IsImageOf g first) (who : Roles) (w
 
     -- the end is there
     there : slice_get a.ends place_end ≡ Some own_end
-    there = end_is g first is who w x st c t a at_c r hand runs_r channel side line is_line on_core
+    there = end_is (thread_of moment c t a at_c r hand runs_r) channel side line is_line on_core
 
     -- and the step is one on it
     acts_so : (act : Act) → Acts (home g r) r.thread (end_place g r channel side) thread pos act pc regs → Acts (home g r) r.thread place_end thread pos act pc regs
-    acts_so act h = acts_there g first is who w x st c t a at_c r hand runs_r channel side line is_line on_core r.tie pos act pc regs h
+    acts_so act h = acts_there (thread_of moment c t a at_c r hand runs_r) channel side line is_line on_core r.tie pos act pc regs h
 
     -- one that sends lacks credits
     pub sends_wait : (ks : List Token) → Acts (home g r) r.thread (end_place g r channel side) thread pos (sends ks) pc regs → nat_le (length ks) own_end.credits ≡ false
@@ -134,7 +137,7 @@ module _ (g : Setting) (first : Roles) (is : IsImageOf g first) (who : Roles) (w
     none_enabled f items Q with_items steps spot_is go = by f with_items steps (goes g.image.chans is.lines.wired w.machine.cores boxes ghosts st.wired.local line (pair_of g.program channel) side (home g r) a own_end near_it f (ap (λ (s : Spot). s.phase) spot_is) go)
       where
         near_it : IsNear g.image.chans w.machine.cores line (pair_of g.program channel) side (home g r) a own_end
-        near_it = is_near g first is who w x st c t a at_c r hand runs_r channel side line is_line on_core
+        near_it = is_near (thread_of moment c t a at_c r hand runs_r) channel side line is_line on_core
 
         by : (f : Phase) → GoesWith f channel pos items → TakesSteps g r channel side pos (acts_left f) Q pc regs → MayGo g.image.chans is.lines.wired w.machine.cores boxes ghosts st.wired.local line (pair_of g.program channel) side (home g r) a own_end near_it f → ⊥
         by between h steps may = h
@@ -189,13 +192,13 @@ module _ (g : Setting) (first : Roles) (is : IsImageOf g first) (who : Roles) (w
     -- nothing goes on there
     stuck_side : IsStuck line transfer.channel transfer.side
     stuck_side =
-        let s = some_is (Stand g r false hand a x.state (w.lives d u) x.actions) (slice_get x.state.branches r.branch) (stands_at g first is none_rests who w x st d u a r hand at_d runs_r) in
+        let s = some_is (Stand g r false hand a x.state (w.lives d u) x.actions) (slice_get x.state.branches r.branch) (stands_at moment d u a r hand at_d runs_r) in
         stuck_by s.0 s.2 s.0.mode refl
 
   -- nothing goes on where somebody is inside a transfer
   stuck_of : (line channel : ℕ) (side : Side) → IsLine g.program line channel → (d u : ℕ) → IsTransferring who d u channel side → IsStuck line channel side
   stuck_of line channel side is_line d u i =
-      let e = the_core g first is none_rests who w x st d u i.runner i.hand i.runs in
+      let e = the_core moment d u i.runner i.hand i.runs in
       subst (λ k. IsStuck line k side) i.channel_is
       (subst (λ s. IsStuck line i.transfer.channel s) i.side_is
       (stuck_side d u line i.runner i.hand i.runs i.transfer i.is (subst (IsLine g.program line) (sym i.channel_is) is_line) e.0 e.1))

@@ -28,6 +28,7 @@ use Rattle.xr_threads.specs.Runners.{Setting, Runner, home}
 use Rattle.xr_threads.specs.ThreadViews.{Owns, giving_back, held_in, running, sync_in}
 use Rattle.xr_threads.specs.Standing.{AreLoose, IsRun, Stand, Standing, Stands, StandsBy, StandsWith, ThreadIs, none_rests}
 use Rattle.xr_threads.specs.Turns.{GivesBack, IsFree, IsWaitingTied, Rest, cost, is_watching}
+use Rattle.xr_threads.proofs.Moments.{Moment, ThreadAt}
 use Rattle.xr_threads.proofs.OwnEvents.{rests_alone, rests_there}
 use Rattle.xr_threads.proofs.Deciding.{hand_has_sync, runs_at_thread}
 use Rattle.xr_threads.proofs.Lives.{own_life}
@@ -43,8 +44,10 @@ use Rattle.xr_threads.proofs.Usage.{OthersUsed, used_on}
 use Rattle.xr_threads.proofs.Watching.{events_on, here_at, items_unwatched}
 use Rattle.xr_threads.proofs.Wiring.{TransfersAsBefore, wired_still}
 
-module _ (g : Setting) (first : Roles) (is : IsImageOf g first) (who : Roles) (w : Watched) (x : Told (of_kernel g.program)) (st : Standing g none_rests who w x)
-    (c t : ℕ) (a : CoreState) (at_c : slice_get w.machine.cores c ≡ Some a) (r : Runner) (n : ℕ) (runs_r : who c t ≡ used_by r (giving_back n)) where
+module _ {moment : Moment none_rests} {n : ℕ} (thread_at : ThreadAt moment (giving_back n)) where
+  open moment use {setting as g, image as is, roles as who, watched as w, told as x, standing as st}
+  open thread_at use {core as c, thread as t, state as a, at_core as at_c, runner as r, runs as runs_r}
+
   used : AreUsedSo who c a
   used = st.used c a at_c
 
@@ -230,7 +233,7 @@ module _ (g : Setting) (first : Roles) (is : IsImageOf g first) (who : Roles) (w
         record { core = k.core; thread = k.thread; runner = k.runner; hand = s.0; runs = s.1; branch = k.branch }
 
     abbrev watched' : Watched
-    watched' = watched g first is none_rests who w x st c t a at_c r (giving_back n) runs_r (λ u. nat_eq u t) (eq-eqb t t refl) left x.state effect None
+    watched' = watched thread_at (λ u. nat_eq u t) (eq-eqb t t refl) left x.state effect None
 
     unwatched : is_watching branch.items ≡ false
     unwatched = items_unwatched g r branch.items gives.exits (gives.pc + 1) j gives.at_code
@@ -298,11 +301,11 @@ module _ (g : Setting) (first : Roles) (is : IsImageOf g first) (who : Roles) (w
           piece = [];
           world = x.state;
           acted = refl;
-          standing = answered g first is none_rests who w x st c t a at_c r (giving_back n) runs_r (λ u. nat_eq u t) self left x.state effect (rests_alone c t) who' watched' []
-              (has_stepped g first is none_rests who w x st c t a at_c r (giving_back n) runs_r (λ u. nat_eq u t) self left x.state effect None refl)
+          standing = answered thread_at (λ u. nat_eq u t) self left x.state effect (rests_alone c t) who' watched' []
+              (has_stepped thread_at (λ u. nat_eq u t) self left x.state effect None refl)
               (record {
                 acted = refl;
-                clocks = clocks_still g first is none_rests who w x st c t a at_c r (giving_back n) runs_r (λ u. nat_eq u t) self left x.state effect None;
+                clocks = clocks_still thread_at (λ u. nat_eq u t) self left x.state effect None;
                 trace = st.trace;
                 roles = roles';
                 reserves = reserves_of_others g who x.state st.reserves who' gives_as_before;
@@ -311,8 +314,8 @@ module _ (g : Setting) (first : Roles) (is : IsImageOf g first) (who : Roles) (w
                 far_role = λ d u ne. role_far who c t (used_by r None) d u ne;
                 rests = λ u m none. let both : false ≡ true = none in absurd (let z : ⊥ = cc in z);
                 far_rests = λ d u ne none. let both : false ≡ true = none in absurd (let z : ⊥ = cc in z);
-                steps = λ u m. steps_still g first is none_rests who w x st c t a at_c r (giving_back n) runs_r (λ u. nat_eq u t) self left x.state effect None u m;
-                far_steps = λ d u ne. far_steps_still g first is none_rests who w x st c t a at_c r (giving_back n) runs_r (λ u. nat_eq u t) self left x.state effect None d u ne;
+                steps = λ u m. steps_still thread_at (λ u. nat_eq u t) self left x.state effect None u m;
+                far_steps = λ d u ne. far_steps_still thread_at (λ u. nat_eq u t) self left x.state effect None d u ne;
                 stand = own_stand;
                 links = st.links;
                 wired = wired_still g who who' w.machine watched'.machine c a left x.state x.state transfers_still at_c refl refl refl st.wired;

@@ -25,6 +25,7 @@ use Rattle.xr_threads.specs.ThreadViews.{Rely, ThreadView}
 use Rattle.xr_threads.specs.Settled.{IsOwn}
 use Rattle.xr_threads.specs.Standing.{IsAtRest, Stand, Standing, Stands, StandsBy, StandsWith, none_rests}
 use Rattle.xr_threads.specs.Transfers.{Transfer}
+use Rattle.xr_threads.proofs.Moments.{branch_of, moment_of, thread_of}
 use Rattle.xr_threads.proofs.Moves.{kept_now, stands_at}
 use Rattle.xr_threads.proofs.SettleCases.{goes_its_way, settles_one}
 use Rattle.xr_threads.specs.Living.{AreNamed}
@@ -124,7 +125,7 @@ module _ (g : Setting) (first : Roles) (is : IsImageOf g first) (w : Watched) wh
         Stands g (may_rest' i u) e x.state (w.lives i u) more (who i u)
     one_as more le i u e at rests =
         role_as g (may_rest i u) (may_rest' i u) e x.state (w.lives i u) x.actions more (who i u) rests
-        (λ s hand runs_s. kept_now g first is may_rest who w x st i u e s hand at runs_s) le (st.threads i u e at)
+        (λ s hand runs_s. kept_now (moment_of g first is who w x st) i u e s hand at runs_s) le (st.threads i u e at)
 
     -- more may be at rest, and families may have done more
     pub standing_as : (more : ℕ → ℕ) → ((f : ℕ) → x.actions f ≤ more f) → ((i u : ℕ) (s : Runner) (hand : Option Hand) → who i u ≡ used_by s hand → may_rest i u ≡ true → may_rest' i u ≡ true) →
@@ -223,7 +224,7 @@ module _ (g : Setting) (first : Roles) (is : IsImageOf g first) (w : Watched) wh
     stand_of : (who : Roles) (x : Told (of_kernel g.program)) → Standing g may_rest who w x → (r : Runner) (hand : Option Hand) → who c t ≡ used_by r hand → (branch : Branch) → slice_get x.state.branches r.branch ≡ Some branch →
         Stand g r (may_rest c t) hand a x.state (w.lives c t) x.actions branch
     stand_of who x st r hand runs_r branch known =
-        subst (λ o. SomeIs o (Stand g r (may_rest c t) hand a x.state (w.lives c t) x.actions)) known (stands_at g first is may_rest who w x st c t a r hand at_c runs_r)
+        subst (λ o. SomeIs o (Stand g r (may_rest c t) hand a x.state (w.lives c t) x.actions)) known (stands_at (moment_of g first is who w x st) c t a r hand at_c runs_r)
 
     -- by how much it may do without an instruction
     settle_at : (n : ℕ) (who : Roles) (x : Told (of_kernel g.program)) → Standing g may_rest who w x → (r : Runner) → who c t ≡ used_by r None → (branch : Branch) → slice_get x.state.branches r.branch ≡ Some branch →
@@ -236,9 +237,9 @@ module _ (g : Setting) (first : Roles) (is : IsImageOf g first) (w : Watched) wh
         (λ at_rest.
         let rest = at_rest.3 in
         ⊎_elim
-        (λ (own : IsOwn r.parents branch.items). goes_its_way g first is may_rest who w x st c t a at_c r runs_r branch known at_rest.1 stand at_rest.2 rest.0 rest.1 branch.items refl rest.3 own may_rest' rests)
+        (λ (own : IsOwn r.parents branch.items). goes_its_way (branch_of (thread_of (moment_of g first is who w x st) c t a at_c r None runs_r) branch known stand) at_rest.1 at_rest.2 rest.0 rest.1 branch.items refl rest.3 own may_rest' rests)
         (λ (none : HasNone r.parents branch.items).
-        let q = settles_one g first is may_rest who w x st c t a at_c r runs_r branch known at_rest.1 stand at_rest.2 rest.0 rest.1 branch.items refl rest.3 at_rest.0 branch.items refl none in
+        let q = settles_one (branch_of (thread_of (moment_of g first is who w x st) c t a at_c r None runs_r) branch known stand) at_rest.1 at_rest.2 rest.0 rest.1 branch.items refl rest.3 at_rest.0 branch.items refl none in
         let here : Settles g may_rest who w x w = record {
           follows = record { who = q.who; piece = q.piece; world = q.world; acted = q.acted; standing = q.standing; named = q.named };
           none_inside = q.none_inside;
@@ -251,7 +252,7 @@ module _ (g : Setting) (first : Roles) (is : IsImageOf g first) (w : Watched) wh
     -- whatever its role is
     pub thread_settles : (who : Roles) (x : Told (of_kernel g.program)) → Standing g may_rest who w x → (role : Role) → who c t ≡ role → Settles g may_rest' who w x w
     thread_settles who x st (used_by r hand) e =
-        let there = some_is (Stand g r (may_rest c t) hand a x.state (w.lives c t) x.actions) (slice_get x.state.branches r.branch) (stands_at g first is may_rest who w x st c t a r hand at_c e) in
+        let there = some_is (Stand g r (may_rest c t) hand a x.state (w.lives c t) x.actions) (slice_get x.state.branches r.branch) (stands_at (moment_of g first is who w x st) c t a r hand at_c e) in
         let branch = there.0 in
         let stand = there.2 in
         ⊎_elim

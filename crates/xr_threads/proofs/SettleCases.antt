@@ -33,6 +33,7 @@ use Rattle.xr_threads.proofs.Counts.{ended_counts, made_counts}
 use Rattle.xr_threads.proofs.Evaluations.{item_acts, with_items}
 use Rattle.xr_threads.proofs.Holding.{HaveEnded, holds_behind, ports_behind}
 use Rattle.xr_threads.proofs.Leading.{settled_leads}
+use Rattle.xr_threads.proofs.Moments.{BranchAt, Moment, ThreadAt}
 use Rattle.xr_threads.proofs.Moves.{laid_at}
 use Rattle.xr_threads.proofs.Seats.{role_here, seated_itself, with_role}
 use Rattle.xr_threads.proofs.SettleSteps.{IsSettled, loose_settled, settled, works_settled}
@@ -65,11 +66,14 @@ pub record SettlesOne (g : Setting) (may_rest : (core thread : ℕ) → Bool) (o
   pub known : slice_get world.branches runner.branch ≡ Some next
   pub lighter : thread_weight runner.parents next.items < weight
 
-module _ (g : Setting) (first : Roles) (is : IsImageOf g first) (may_rest : (core thread : ℕ) → Bool) (who : Roles) (w : Watched) (x : Told (of_kernel g.program)) (st : Standing g may_rest who w x)
-    (c t : ℕ) (a : CoreState) (at_c : slice_get w.machine.cores c ≡ Some a) (r : Runner) (runs_r : who c t ≡ used_by r None)
-    (branch : Branch) (known : slice_get x.state.branches r.branch ≡ Some branch) (running_is : branch.mode ≡ runs)
-    (stand : Stand g r (may_rest c t) None a x.state (w.lives c t) x.actions branch) (none : r.transfer ≡ None) (j : ℕ) (few : j + cost g r ≤ stand.left) (items : List Item) (items_are : branch.items ≡ items)
-    (h : Rest g r items j (record { core = a; world = x.state; hand = None })) where
+module _ {may_rest : (core thread : ℕ) → Bool} {moment : Moment may_rest} {thread_at : ThreadAt moment None} (branch_at : BranchAt thread_at) (running_is : branch_at.branch.mode ≡ runs)
+    (none : thread_at.runner.transfer ≡ None) (j : ℕ) (few : j + cost moment.setting thread_at.runner ≤ branch_at.stand.left)
+    (items : List Item) (items_are : branch_at.branch.items ≡ items)
+    (h : Rest moment.setting thread_at.runner items j (record { core = thread_at.state; world = moment.told.state; hand = None })) where
+  open moment use {setting as g, image as is, roles as who, watched as w, told as x, standing as st}
+  open thread_at use {core as c, thread as t, state as a, at_core as at_c, runner as r, runs as runs_r}
+  open branch_at use {branch, known, stand}
+
   abbrev z : ThreadView
   z = record { core = a; world = x.state; hand = None }
 
@@ -121,7 +125,7 @@ module _ (g : Setting) (first : Roles) (is : IsImageOf g first) (may_rest : (cor
     on_its_way =
         let lt : r.core < 4 = subst (λ k. k < 4) (sym (st.roles.core c t r None runs_r)) (st.roles.there c t r None runs_r) in
         let sided = first_sided g r x.state st.lawful branch known stand.sides items items_are h.fits in
-        let leads = settled_leads g r (laid_at g first is may_rest who w x st c t r None runs_r) lt items j z h own sided in
+        let leads = settled_leads g r (laid_at moment c t r None runs_r) lt items j z h own sided in
         (leads.0, leads.1, (let le = leads.2 in omega (arith, le, few)), leads.3)
 
     way_stand : Stand g r (may_rest' c t) hand a x.state (w.lives c t) (told_by g.program g.stimulus x [] x.state).actions branch
@@ -148,7 +152,7 @@ module _ (g : Setting) (first : Roles) (is : IsImageOf g first) (may_rest : (cor
       piece = [];
       world = x.state;
       acted = refl;
-      standing = settled g first is may_rest who w x st c t a at_c r runs_r r hand [] x.state nothing_done h.has.holds h.has.ports none may_rest' rests branch known way_stand;
+      standing = settled thread_at r hand [] x.state nothing_done h.has.holds h.has.ports none may_rest' rests branch known way_stand;
       named = λ names. settles_linked g may_rest who w x st names c t r r None hand runs_r refl (inr (refl, none_opened hand (first_held items).2)) (told_by g.program g.stimulus x [] x.state) (told_same g x [] x.state refl);
     }
 
@@ -174,7 +178,7 @@ module _ (g : Setting) (first : Roles) (is : IsImageOf g first) (may_rest : (cor
           piece = piece;
           world = y;
           acted = d.acted;
-          standing = settled g first is may_rest who w x st c t a at_c r runs_r (shrunk r others) None piece y d h.has.holds h.has.ports none may_rest (λ i u ne m. m) next there
+          standing = settled thread_at (shrunk r others) None piece y d h.has.holds h.has.ports none may_rest (λ i u ne m. m) next there
               (resting g (shrunk r others) (may_rest c t) a y (w.lives c t) (told_by g.program g.stimulus x piece y).actions next j stand.left may
               (ap (λ (b : Branch). b.core) (sym same) ∙ stand.core) (ap (λ (b : Branch). b.family) (sym same) ∙ stand.family) refl
               (parents_beside g r x.state q.branch q.known q.running next r.parents r.branch stand.parents) (ap (λ (b : Branch). b.sides) (sym same) ∙ stand.sides) none q.running q.rest few (bound_behind piece y stand.left (omega arith)));
@@ -207,7 +211,7 @@ module _ (g : Setting) (first : Roles) (is : IsImageOf g first) (may_rest : (cor
           piece = piece;
           world = y;
           acted = d.acted;
-          standing = settled g first is may_rest who w x st c t a at_c r runs_r s None piece y d h.has.holds h.has.ports none may_rest (λ i u ne m. m) next there
+          standing = settled thread_at s None piece y d h.has.holds h.has.ports none may_rest (λ i u ne m. m) next there
               (resting g s (may_rest c t) a y (w.lives c t) (told_by g.program g.stimulus x piece y).actions next j stand.left may core family refl
               (parents_under g r x.state q.branch q.known q.running ss rest core family sides rest_fit stand.parents) (ap (sides_under ss) sides) none refl q.rest_there few (bound_behind piece y stand.left (omega arith)));
           named = λ names. settles_linked g may_rest who w x st names c t r s None None runs_r refl (inl refl) (told_by g.program g.stimulus x piece y) (told_under g x piece y r.branch q.branch.family q.branch (maker_of q.branch (length x.state.branches) rest) next q.known refl refl made_below refl);
@@ -330,7 +334,7 @@ module _ (g : Setting) (first : Roles) (is : IsImageOf g first) (may_rest : (cor
           piece = go r.branch ∷ [];
           world = over_world;
           acted = over_settled.acted;
-          standing = settled g first is may_rest who w x st c t a at_c r runs_r over None (go r.branch ∷ []) over_world over_settled h.has.holds h.has.ports none may_rest (λ i u ne m. m) (finished own_branch) over_there joining_stand;
+          standing = settled thread_at over None (go r.branch ∷ []) over_world over_settled h.has.holds h.has.ports none may_rest (λ i u ne m. m) (finished own_branch) over_there joining_stand;
           named = λ names. settles_linked g may_rest who w x st names c t r over None None runs_r refl (inl refl) (told_by g.program g.stimulus x (go r.branch ∷ []) over_world) (told_one g x (go r.branch ∷ []) over_world r.branch own_branch (finished own_branch) own_known refl refl);
           none_inside = none_with who c t over None none;
           runner = over;
@@ -379,10 +383,10 @@ module _ (g : Setting) (first : Roles) (is : IsImageOf g first) (may_rest : (cor
             used_not_unused e = cc
 
         over_works_all : (i u : ℕ) (q : Runner) (other : Option Hand) → who_over i u ≡ used_by q other → Works g over_world q other
-        over_works_all i u q other at = works_settled g first is may_rest who w x st c t a at_c r runs_r over None (go r.branch ∷ []) over_world over_settled over_works i u q other at
+        over_works_all i u q other at = works_settled thread_at over None (go r.branch ∷ []) over_world over_settled over_works i u q other at
 
         over_loose : AreLoose g who_over c a over_world
-        over_loose = loose_settled g first is may_rest who w x st c t a at_c r runs_r over None (go r.branch ∷ []) over_world over_settled h.has.holds h.has.ports some_threads
+        over_loose = loose_settled thread_at over None (go r.branch ∷ []) over_world over_settled h.has.holds h.has.ports some_threads
 
         over_lawful : Lawful g.program over_world
         over_lawful = laws_kept g.program g.stimulus x.state over_world (go r.branch) over_acted st.lawful
@@ -443,7 +447,7 @@ module _ (g : Setting) (first : Roles) (is : IsImageOf g first) (may_rest : (cor
           piece = up_piece;
           world = risen_y;
           acted = up_settled.acted;
-          standing = settled g first is may_rest who w x st c t a at_c r runs_r above None up_piece risen_y up_settled h.has.holds h.has.ports none may_rest (λ i u ne m. m) up_next up_there
+          standing = settled thread_at above None up_piece risen_y up_settled h.has.holds h.has.ports none may_rest (λ i u ne m. m) up_next up_there
               (resting g above (may_rest c t) a risen_y (w.lives c t) (told_by g.program g.stimulus x up_piece risen_y).actions up_next j stand.left may waiting.0.on_core waiting.0.of_family (ap footprint_of (sym waiting.0.items))
               (parents_risen g r x.state own_branch own_known own_running (length g.program.roots) st.lawful.forest p ps waiting.0.branch waiting) waiting.0.sides none refl up_rest few (bound_behind up_piece risen_y stand.left (omega arith)));
           named = λ names. settles_linked g may_rest who w x st names c t r above None None runs_r refl (inl refl) (told_by g.program g.stimulus x up_piece risen_y) (told_two g x up_piece risen_y r.branch p.branch own_branch (finished own_branch) waiting.0.branch up_next own_known refl waiting.0.known refl goes_up.apart refl);

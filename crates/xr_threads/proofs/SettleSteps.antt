@@ -28,6 +28,7 @@ use Rattle.xr_threads.specs.Standing.{AreLoose, IsMade, IsRun, IsWanted, Stand, 
 use Rattle.xr_threads.specs.Transfers.{Transfer}
 use Rattle.xr_threads.specs.Turns.{HoldsStore, PortsStand}
 use Rattle.xr_threads.proofs.Holding.{loose_behind}
+use Rattle.xr_threads.proofs.Moments.{Moment, ThreadAt}
 use Rattle.xr_threads.proofs.Moves.{Effect, laid_at, other_same, parent_there, own_still, parents_left, same_hand, same_runner, stands_at, works_at}
 use Rattle.xr_threads.proofs.Pools.{num_is}
 use Rattle.xr_threads.proofs.Reserves.{GiveAsBefore, reserves_behind, reserves_of_others}
@@ -62,9 +63,12 @@ pub record IsSettled (g : Setting) (r : Runner) (x : World) (s : Runner) (hand :
       (n : ℕ) (branch : Branch) → slice_get y.branches n ≡ Some branch → has_ended branch.mode ≡ false → IsMade (length g.program.roots) y.branches n
   pub wants : (p : Parent) (v : ℕ) → IsParent s.parents p → by_items (variable v) p.items ≡ true → IsParent r.parents p ⊎ (r.footprint.uses v ≡ true)
 
-module _ (g : Setting) (first : Roles) (is : IsImageOf g first) (may_rest : (core thread : ℕ) → Bool) (who : Roles) (w : Watched) (x : Told (of_kernel g.program)) (st : Standing g may_rest who w x)
-    (c t : ℕ) (a : CoreState) (at_c : slice_get w.machine.cores c ≡ Some a) (r : Runner) (runs_r : who c t ≡ used_by r None)
-    (s : Runner) (hand : Option Hand) (piece : List Action) (y : World) (d : IsSettled g r x.state s hand piece y) where
+module _ {may_rest : (core thread : ℕ) → Bool} {moment : Moment may_rest} (thread_at : ThreadAt moment None)
+    (s : Runner) (hand : Option Hand) (piece : List Action) (y : World)
+    (d : IsSettled moment.setting thread_at.runner moment.told.state s hand piece y) where
+  open moment use {setting as g, image as is, roles as who, watched as w, told as x, standing as st}
+  open thread_at use {core as c, thread as t, state as a, at_core as at_c, runner as r, runs as runs_r}
+
   core_is : r.core ≡ c
   core_is = st.roles.core c t r None runs_r
 
@@ -81,7 +85,7 @@ module _ (g : Setting) (first : Roles) (is : IsImageOf g first) (may_rest : (cor
     threads = λ u m. refl;
     not_held = λ u k got ne. ne_eqb u t (λ f. got_not_run k (sym got ∙ ap (who c) f ∙ runs_r));
     ties = λ u n thread m there tied.
-        let own = own_thread_of g r (may_rest c t) None a x.state (w.lives c t) x.actions (stands_at g first is may_rest who w x st c t a r None at_c runs_r) in
+        let own = own_thread_of g r (may_rest c t) None a x.state (w.lives c t) x.actions (stands_at moment c t a r None at_c runs_r) in
         let at : u ≡ r.thread = eqb-true u t m ∙ sym (st.roles.thread c t r None runs_r) in
         let same : thread ≡ own.thread = same_Some thread own.thread (sym there ∙ ap (slice_get a.threads) at ∙ own.there) in
         inr (sym own.tied ∙ ap (λ (i : Thread). i.tie) (sym same) ∙ num_is thread.tie n tied);
@@ -99,7 +103,7 @@ module _ (g : Setting) (first : Roles) (is : IsImageOf g first) (may_rest : (cor
   -- nobody has a branch that isn't there
   new_nobodys : (b : ℕ) → b ≡ length x.state.branches → IsNobodys who b
   new_nobodys b e i u q other at m =
-      let works = works_at g first is may_rest who w x st i u q other at in
+      let works = works_at moment i u q other at in
       ⊎_elim
       (λ (f : b ≡ q.branch).
       let lt = slice_get_within x.state.branches q.branch works.branch works.known in
@@ -186,7 +190,7 @@ module _ (g : Setting) (first : Roles) (is : IsImageOf g first) (may_rest : (cor
   module _ (holds : HoldsStore g r (record { core = a; world = x.state; hand = None })) (ports : PortsStand g r (record { core = a; world = x.state; hand = None })) where
     pub loose_settled : 1 ≤ threads_on g.program c → AreLoose g who_settled c a y
     loose_settled some =
-        loose_behind g who who_settled c a a x.state y r core_is (laid_at g first is may_rest who w x st c t r None runs_r)
+        loose_behind g who who_settled c a a x.state y r core_is (laid_at moment c t r None runs_r)
         (st.loose c a at_c some) (record { words = λ k ne. refl; resources = others_same _ _ _ _ refl refl refl; store = λ v ne. ap (λ l. words_of l v) d.store })
         (record { holds = subst (λ l. Holds (places g r.core) r.footprint.uses 0 a.words l) (sym d.store) holds.holds; room = holds.room })
         (λ q listed its. let k = ports q listed its in record { port = k.port; there = k.there; declared = k.declared })
@@ -233,7 +237,7 @@ module _ (g : Setting) (first : Roles) (is : IsImageOf g first) (may_rest : (cor
 
       pub settled : Standing g may_rest' who_settled w (told_by g.program g.stimulus x piece y)
       settled =
-          answered g first is may_rest who w x st c t a at_c r None runs_r (λ u. nat_eq u t) (eq-eqb t t refl) a y settled_effect may_rest' who_settled w piece
+          answered thread_at (λ u. nat_eq u t) (eq-eqb t t refl) a y settled_effect may_rest' who_settled w piece
           (record { was = at_c; is = at_c; others = λ i e ne at. other_same w w i e refl at; as_many = refl; size = refl })
           (record {
             acted = d.acted;
@@ -269,15 +273,15 @@ module _ (g : Setting) (first : Roles) (is : IsImageOf g first) (may_rest : (cor
       subst (λ k. Works g y k other) (same_runner s q hand other both) (subst (λ k. Works g y s k) (same_hand s q hand other both) own))
       (λ other_one.
       let was = sym other_one.1 ∙ at in
-      let works = works_at g first is may_rest who w x st i u q other was in
+      let works = works_at moment i u q other was in
       record {
         branch = works.branch;
-        known = own_still g first is may_rest who w x st c t a at_c r None runs_r (λ k. nat_eq k t) a y settled_effect i u q other other_one.0 was q.branch works.branch (inl refl) works.known ∙ works.known;
+        known = own_still moment c t a at_c r None runs_r (λ k. nat_eq k t) a y settled_effect i u q other other_one.0 was q.branch works.branch (inl refl) works.known ∙ works.known;
         goes = works.goes;
         core = works.core;
         family = works.family;
         footprint = works.footprint;
-        parents = parents_still g q x.state y q.core q.family q.parents q.branch (parents_left g first is may_rest who w x st c t a at_c r None runs_r (λ k. nat_eq k t) a y settled_effect i u q other other_one.0 was) works.parents;
+        parents = parents_still g q x.state y q.core q.family q.parents q.branch (parents_left moment c t a at_c r None runs_r (λ k. nat_eq k t) a y settled_effect i u q other other_one.0 was) works.parents;
         in_hand = works.in_hand;
         sides = works.sides;
         done = works.done;

@@ -32,6 +32,7 @@ use Rattle.xr_threads.proofs.Holding.{LeavesLoose, holds_on}
 use Rattle.xl_expr.proofs.Lists.{get_set_same}
 use Rattle.xl_expr.proofs.ResourceParts.{port_same}
 use Rattle.xr_threads.proofs.Lives.{got_new, new_or_old, own_life}
+use Rattle.xr_threads.proofs.Moments.{BranchAt, Moment, ThreadAt}
 use Rattle.xr_threads.proofs.Moves.{Effect, laid_at}
 use Rattle.xr_threads.proofs.Reserves.{GiveAsBefore, reserves_of_others}
 use Rattle.xr_threads.proofs.Standing.{Follows, told_by}
@@ -111,12 +112,18 @@ pub record SilentRoles
   pub ties : (u n : ℕ) (thread : Thread) → moved u ≡ true → slice_get b.threads u ≡ Some thread → is_tied thread n ≡ true → Owns r hand n ⊎ (r.tie ≡ Some n)
   pub syncs : (n : ℕ) → (Owns r hand n → ⊥) → slice_get a.syncs n ≡ Some true → slice_get b.syncs n ≡ Some true
 
-module _ (g : Setting) (first : Roles) (is : IsImageOf g first) (who : Roles) (w : Watched) (x : Told (of_kernel g.program)) (st : Standing g none_rests who w x)
-    (c t : ℕ) (a : CoreState) (at_c : slice_get w.machine.cores c ≡ Some a) (r : Runner) (hand : Option Hand) (runs_r : who c t ≡ used_by r hand)
-    (branch : Branch) (known : slice_get x.state.branches r.branch ≡ Some branch) (stand : Stand g r false hand a x.state (w.lives c t) x.actions branch)
-    (b : CoreState) (hand' : Option Hand) (alive : (mode : ThreadMode) → mode ≡ Running → ThreadIs r.parents branch.mode mode) (calm : (bit : Bool) → bit ≡ false → EventsAre branch.mode branch.items bit) (on : StillRuns g r b)
-    (touched : Guarantee g r (record { core = a; world = x.state; hand = hand }) (record { core = b; world = x.state; hand = hand' }))
-    (roots : b.roots ≡ a.roots) (ends : b.ends ≡ a.ends) (who' : Roles) (moved : (thread : ℕ) → Bool) (s : SilentRoles g who who' c t r hand hand' a b branch moved) where
+module _ {moment : Moment none_rests} {hand : Option Hand} {thread_at : ThreadAt moment hand} (branch_at : BranchAt thread_at)
+    (b : CoreState) (hand' : Option Hand)
+    (alive : (mode : ThreadMode) → mode ≡ Running → ThreadIs thread_at.runner.parents branch_at.branch.mode mode)
+    (calm : (bit : Bool) → bit ≡ false → EventsAre branch_at.branch.mode branch_at.branch.items bit)
+    (on : StillRuns moment.setting thread_at.runner b)
+    (touched : Guarantee moment.setting thread_at.runner (record { core = thread_at.state; world = moment.told.state; hand = hand }) (record { core = b; world = moment.told.state; hand = hand' }))
+    (roots : b.roots ≡ thread_at.state.roots) (ends : b.ends ≡ thread_at.state.ends) (who' : Roles) (moved : (thread : ℕ) → Bool)
+    (s : SilentRoles moment.setting moment.roles who' thread_at.core thread_at.thread thread_at.runner hand hand' thread_at.state b branch_at.branch moved) where
+  open moment use {setting as g, image as is, roles as who, watched as w, told as x, standing as st}
+  open thread_at use {core as c, thread as t, state as a, at_core as at_c, runner as r, runs as runs_r}
+  open branch_at use {branch, known, stand}
+
   pub silent_effect : Effect g who c t r hand moved a b x.state x.state
   silent_effect = record {
     clock = touched.clock;
@@ -132,11 +139,11 @@ module _ (g : Setting) (first : Roles) (is : IsImageOf g first) (who : Roles) (w
   }
 
   abbrev pub silent_watched : Watched
-  silent_watched = watched g first is none_rests who w x st c t a at_c r hand runs_r moved s.own b x.state silent_effect None
+  silent_watched = watched thread_at moved s.own b x.state silent_effect None
 
   silent_loose : 1 ≤ threads_on g.program c → AreLoose g who' c b x.state
   silent_loose some =
-      loose_still g who who' c a b x.state x.state r (st.roles.core c t r hand runs_r) (laid_at g first is none_rests who w x st c t r hand runs_r)
+      loose_still g who who' c a b x.state x.state r (st.roles.core c t r hand runs_r) (laid_at moment c t r hand runs_r)
       (st.loose c a at_c some) (record { words = touched.words; resources = touched.resources; store = λ v e. refl })
       (λ v nobody. (nobody t r hand' s.now, λ u i other at. let k = s.still c u i other at in nobody u i k.0 k.1))
       (λ v want. let k = s.before c want.thread want.runner want.hand want.runs in record { thread = want.thread; runner = want.runner; hand = k.0; runs = k.1; parent = want.parent; waits = want.waits; uses = want.uses })
@@ -210,11 +217,11 @@ module _ (g : Setting) (first : Roles) (is : IsImageOf g first) (who : Roles) (w
       piece = [];
       world = x.state;
       acted = refl;
-      standing = answered g first is none_rests who w x st c t a at_c r hand runs_r moved s.own b x.state silent_effect none_rests who' silent_watched []
-          (has_stepped g first is none_rests who w x st c t a at_c r hand runs_r moved s.own b x.state silent_effect None touched.size)
+      standing = answered thread_at moved s.own b x.state silent_effect none_rests who' silent_watched []
+          (has_stepped thread_at moved s.own b x.state silent_effect None touched.size)
           (record {
             acted = refl;
-            clocks = clocks_still g first is none_rests who w x st c t a at_c r hand runs_r moved s.own b x.state silent_effect None;
+            clocks = clocks_still thread_at moved s.own b x.state silent_effect None;
             trace = st.trace;
             roles = s.roles;
             reserves = reserves_of_others g who x.state st.reserves who' s.gives;
@@ -223,8 +230,8 @@ module _ (g : Setting) (first : Roles) (is : IsImageOf g first) (who : Roles) (w
             far_role = s.far_role;
             rests = λ u m none. none;
             far_rests = λ d u ne none. none;
-            steps = λ u m. steps_still g first is none_rests who w x st c t a at_c r hand runs_r moved s.own b x.state silent_effect None u m;
-            far_steps = λ d u ne. far_steps_still g first is none_rests who w x st c t a at_c r hand runs_r moved s.own b x.state silent_effect None d u ne;
+            steps = λ u m. steps_still thread_at moved s.own b x.state silent_effect None u m;
+            far_steps = λ d u ne. far_steps_still thread_at moved s.own b x.state silent_effect None d u ne;
             stand = silent_stand;
             links = st.links;
             wired = wired_still g who who' w.machine silent_watched.machine c a b x.state x.state silent_transfers at_c refl ends refl st.wired;

@@ -24,6 +24,7 @@ use Rattle.xr_threads.specs.Standing.{AreLoose, IsMade, IsRun, Standing, Stands,
 use Rattle.xr_threads.specs.Transfers.{Transfer}
 use Rattle.xr_threads.specs.Wired.{AreWired, HasAlone}
 use Rattle.xr_threads.proofs.Lives.{far_life, other_life}
+use Rattle.xr_threads.proofs.Moments.{Moment, ThreadAt}
 use Rattle.xr_threads.proofs.Moves.{Effect, HasStepped, far_loose_still, far_others, kept_others, moves, other_same, own_still, parents_left, stands_at, works_at}
 use Rattle.xr_threads.proofs.Reserves.{laws_behind}
 use Rattle.xr_threads.proofs.Rooms.{spare_for}
@@ -60,9 +61,12 @@ pub record IsAnswered
   pub run : (n : ℕ) (branch : Branch) → slice_get y.branches n ≡ Some branch → has_ended branch.mode ≡ false → IsRun who' n
   pub made : (n : ℕ) (branch : Branch) → slice_get y.branches n ≡ Some branch → has_ended branch.mode ≡ false → IsMade (length g.program.roots) y.branches n
 
-module _ (g : Setting) (first : Roles) (is : IsImageOf g first) (may_rest : (core thread : ℕ) → Bool) (who : Roles) (w : Watched) (x : Told (of_kernel g.program)) (st : Standing g may_rest who w x)
-    (c t : ℕ) (a : CoreState) (at_c : slice_get w.machine.cores c ≡ Some a) (r : Runner) (hand : Option Hand) (runs_r : who c t ≡ used_by r hand)
-    (moved : (thread : ℕ) → Bool) (own : moved t ≡ true) (b : CoreState) (y : World) (effect : Effect g who c t r hand moved a b x.state y) where
+module _ {may_rest : (core thread : ℕ) → Bool} {moment : Moment may_rest} {hand : Option Hand} (thread_at : ThreadAt moment hand)
+    (moved : (thread : ℕ) → Bool) (own : moved thread_at.thread ≡ true) (b : CoreState) (y : World)
+    (effect : Effect moment.setting moment.roles thread_at.core thread_at.thread thread_at.runner hand moved thread_at.state b moment.told.state y) where
+  open moment use {setting as g, image as is, roles as who, watched as w, told as x, standing as st}
+  open thread_at use {core as c, thread as t, state as a, at_core as at_c, runner as r, runs as runs_r}
+
   -- a thread that isn't moved is another one
   pub not_own : (u : ℕ) → moved u ≡ false → u ≢ t
   not_own u m e = let both : true ≡ false = sym own ∙ ap moved (sym e) ∙ m in cc
@@ -70,16 +74,16 @@ module _ (g : Setting) (first : Roles) (is : IsImageOf g first) (may_rest : (cor
   -- a runner that isn't moved works as before
   pub works_behind : (u : ℕ) (s : Runner) (other : Option Hand) → moved u ≡ false → who c u ≡ used_by s other → Works g y s other
   works_behind u s other m runs_s =
-      let works = works_at g first is may_rest who w x st c u s other runs_s in
+      let works = works_at moment c u s other runs_s in
       let ne : (c ≡ c) × (u ≡ t) → ⊥ = λ h. not_own u m h.1 in
       record {
         branch = works.branch;
-        known = own_still g first is may_rest who w x st c t a at_c r hand runs_r moved b y effect c u s other ne runs_s s.branch works.branch (inl refl) works.known ∙ works.known;
+        known = own_still moment c t a at_c r hand runs_r moved b y effect c u s other ne runs_s s.branch works.branch (inl refl) works.known ∙ works.known;
         goes = works.goes;
         core = works.core;
         family = works.family;
         footprint = works.footprint;
-        parents = parents_still g s x.state y s.core s.family s.parents s.branch (parents_left g first is may_rest who w x st c t a at_c r hand runs_r moved b y effect c u s other ne runs_s) works.parents;
+        parents = parents_still g s x.state y s.core s.family s.parents s.branch (parents_left moment c t a at_c r hand runs_r moved b y effect c u s other ne runs_s) works.parents;
         in_hand = works.in_hand;
         sides = works.sides;
         done = works.done;
@@ -89,7 +93,7 @@ module _ (g : Setting) (first : Roles) (is : IsImageOf g first) (may_rest : (cor
   -- and its thread is what it was
   pub thread_behind : (u : ℕ) (s : Runner) (other : Option Hand) → moved u ≡ false → who c u ≡ used_by s other → HasOwnThread b s
   thread_behind u s other m runs_s =
-      let h = own_thread_of g s (may_rest c u) other a x.state (w.lives c u) x.actions (stands_at g first is may_rest who w x st c u a s other at_c runs_s) in
+      let h = own_thread_of g s (may_rest c u) other a x.state (w.lives c u) x.actions (stands_at moment c u a s other at_c runs_s) in
       record {
         thread = h.thread;
         there = effect.threads s.thread (ap moved (st.roles.thread c u s other runs_s) ∙ m) ∙ h.there;
@@ -141,14 +145,14 @@ module _ (g : Setting) (first : Roles) (is : IsImageOf g first) (may_rest : (cor
           far_steps = answer.far_steps;
           stand = answer.stand;
           kept = λ u s other m runs_s.
-              kept_others g first is may_rest who w x st c t a at_c r hand runs_r moved b y effect u s other (not_own u m) m runs_s
+              kept_others moment c t a at_c r hand runs_r moved b y effect u s other (not_own u m) m runs_s
               (spare_for g who' y c b (crew_behind lt) u s other (answer.same_role u m ∙ runs_s));
-          far_kept = λ d u e s other ne at_d runs_s. far_others g first is may_rest who w x st c t a at_c r hand runs_r moved b y effect d u e s other ne at_d runs_s;
+          far_kept = λ d u e s other ne at_d runs_s. far_others moment c t a at_c r hand runs_r moved b y effect d u e s other ne at_d runs_s;
           links = answer.links;
           wired = answer.wired;
           alone = answer.alone;
           loose = answer.loose;
-          far_loose = λ d e ne at_d loose. far_loose_still g first is may_rest who w x st c t a at_c r hand runs_r moved b y effect who' answer.far_role d e ne loose;
+          far_loose = λ d e ne at_d loose. far_loose_still moment c t a at_c r hand runs_r moved b y effect who' answer.far_role d e ne loose;
           roots = answer.roots;
           far_roots = answer.far_roots;
           placed = answer.placed;

@@ -21,6 +21,7 @@ use Rattle.xr_threads.specs.Roles.{AreUsedSo, Roles, used_by}
 use Rattle.xr_threads.specs.Runners.{Setting, Runner, anyone, port_place}
 use Rattle.xr_threads.specs.ThreadViews.{Rely, SpareFor}
 use Rattle.xr_threads.specs.Standing.{AreLoose, Standing, none_rests}
+use Rattle.xr_threads.proofs.Moments.{Moment}
 use Rattle.xr_threads.proofs.Moves.{HasStepped, kept_now, moves, other_same}
 use Rattle.xr_threads.proofs.Reserves.{reserves_behind}
 use Rattle.xr_threads.proofs.NamedLinks.{alike_linked, told_same}
@@ -39,7 +40,10 @@ spare_ticked (Some hand) a h = record { threads = h.threads; sync = h.sync; few_
 used_ticked : (who : Roles) (c : ℕ) (a : CoreState) → AreUsedSo who c a → AreUsedSo who c (ticked a)
 used_ticked who c a h = record { threads = h.threads; syncs = h.syncs; unused = h.unused; got = h.got; taken = h.taken; owned = h.owned }
 
-module _ (g : Setting) (first : Roles) (is : IsImageOf g first) (who : Roles) (w : Watched) (x : Told (of_kernel g.program)) (st : Standing g none_rests who w x) (c : ℕ) (a : CoreState) (at_c : slice_get w.machine.cores c ≡ Some a) where
+module _ (moment : Moment none_rests)
+    (c : ℕ) (a : CoreState) (at_c : slice_get moment.watched.machine.cores c ≡ Some a) where
+  open moment use {setting as g, image as is, roles as who, watched as w, told as x, standing as st}
+
   -- the program's state after the tick
   abbrev pub later : World
   later = record x.state { clocks = slice_set x.state.clocks c (a.clock + 1) }
@@ -57,7 +61,7 @@ module _ (g : Setting) (first : Roles) (is : IsImageOf g first) (who : Roles) (w
 
   kept_here : (u : ℕ) (s : Runner) (hand : Option Hand) → who c u ≡ used_by s hand → Rely g s (record { core = a; world = x.state; hand = hand }) (record { core = ticked a; world = later; hand = hand })
   kept_here u s hand runs =
-      let k = kept_now g first is none_rests who w x st c u a s hand at_c runs in
+      let k = kept_now moment c u a s hand at_c runs in
       let core = st.roles.core c u s hand runs in
       record {
         thread = refl;
@@ -76,7 +80,7 @@ module _ (g : Setting) (first : Roles) (is : IsImageOf g first) (who : Roles) (w
 
   kept_far : (d u : ℕ) (e : CoreState) (s : Runner) (hand : Option Hand) → d ≢ c → slice_get w.machine.cores d ≡ Some e → who d u ≡ used_by s hand → Rely g s (record { core = e; world = x.state; hand = hand }) (record { core = e; world = later; hand = hand })
   kept_far d u e s hand ne at runs =
-      let k = kept_now g first is none_rests who w x st d u e s hand at runs in
+      let k = kept_now moment d u e s hand at runs in
       let core = st.roles.core d u s hand runs in
       record {
         thread = refl;

@@ -19,6 +19,7 @@ use Rattle.xr_threads.specs.Standing.{Standing}
 use Rattle.xr_threads.specs.Wired.{AreSidesOn, HasAlone, IsLine, IsTransferring}
 use Rattle.xr_threads.proofs.Alone.{alone_begins, alone_excludes}
 use Rattle.xr_threads.proofs.InTransfers.{in_phase}
+use Rattle.xr_threads.proofs.Moments.{Moment}
 use Rattle.xr_threads.proofs.Moves.{same_runner, works_at}
 use Rattle.xr_threads.proofs.WiredMoves.{Moves}
 use Rattle.xr_threads.proofs.Wiring.{wired_between}
@@ -29,10 +30,13 @@ not_other : (side : Side) → ◌≡◌ {A = Option Side} (Some side) (Some (oth
 not_other first e = cc
 not_other second e = cc
 
-module _ (g : Setting) (roots : Roles) (is : IsImageOf g roots) (may_rest : (core thread : ℕ) → Bool) (who : Roles) (w : Watched) (x : Told (of_kernel g.program)) (st : Standing g may_rest who w x)
-    (c t : ℕ) (r : Runner) (hand : Option Hand) (runs_r : who c t ≡ used_by r hand) (outside : r.transfer ≡ None)
-    (branch : Branch) (known : slice_get x.state.branches r.branch ≡ Some branch) (on : branch.mode ≡ runs)
-    (d : ℕ) (side : Side) (is_channel : IsChannel g r d) (uses : IsTrue (by_items (channel d) branch.items)) (stands : side_of branch d ≡ Some side) where
+module _ {may_rest : (core thread : ℕ) → Bool} (moment : Moment may_rest)
+    (c t : ℕ) (r : Runner) (hand : Option Hand) (runs_r : moment.roles c t ≡ used_by r hand) (outside : r.transfer ≡ None)
+    (branch : Branch) (known : slice_get moment.told.state.branches r.branch ≡ Some branch) (on : branch.mode ≡ runs) (d : ℕ)
+    (side : Side) (is_channel : IsChannel moment.setting r d) (uses : IsTrue (by_items (channel d) branch.items))
+    (stands : side_of branch d ≡ Some side) where
+  open moment use {setting as g, image as is, roles as who, watched as w, told as x, standing as st}
+
   awake : IsWaiting branch.mode → ⊥
   awake h = subst IsWaiting on h
 
@@ -58,7 +62,7 @@ module _ (g : Setting) (roots : Roles) (is : IsImageOf g roots) (may_rest : (cor
       let own : r ≡ i.runner = same_runner r i.runner hand i.hand (sym runs_r ∙ sym (ap (λ k. who k u) one.0 ∙ ap (who c) one.1) ∙ i.runs) in
       none-some i.transfer (sym outside ∙ ap (λ (k : Runner). k.transfer) own ∙ i.is))
       (λ (ne : i.runner.branch ≢ r.branch).
-      let works = works_at g roots is may_rest who w x st e u i.runner i.hand i.runs in
+      let works = works_at moment e u i.runner i.hand i.runs in
       let alone : HasAlone x.state.branches d side i.runner.branch = subst (λ k. HasAlone x.state.branches k side i.runner.branch) i.channel_is (subst (λ k. HasAlone x.state.branches i.transfer.channel k i.runner.branch) i.side_is (st.alone e u i.runner i.hand i.transfer i.runs i.is)) in
       not_other side (sym stands ∙ alone_excludes d side x.state.branches i.runner.branch r.branch works.branch branch alone works.known works.goes known awake (λ f. ne (sym f)) uses))
       (cases_eq i.runner.branch r.branch)

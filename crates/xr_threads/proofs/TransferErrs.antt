@@ -16,14 +16,16 @@ use Rattle.xr_threads.specs.Standing.{Stand, Standing, none_rests}
 use Rattle.xr_threads.specs.Transfers.{StopsIn}
 use Rattle.xr_threads.specs.Turns.{Errs}
 use Rattle.xr_threads.proofs.InTransfers.{IsFollowed, followed}
+use Rattle.xr_threads.proofs.Moments.{BranchAt, Moment, ThreadAt}
 use Rattle.xr_threads.proofs.Turned.{errs_answered}
 
-module _ (g : Setting) (first : Roles) (is : IsImageOf g first) (who : Roles) (w : Watched) (x : Told (of_kernel g.program)) (st : Standing g none_rests who w x)
-    (c t : ℕ) (a : CoreState) (at_c : slice_get w.machine.cores c ≡ Some a) (r : Runner) (runs_r : who c t ≡ used_by r None)
-    (branch : Branch) (known : slice_get x.state.branches r.branch ≡ Some branch) (stand : Stand g r false None a x.state (w.lives c t) x.actions branch) where
+module _ {moment : Moment none_rests} {thread_at : ThreadAt moment None} (branch_at : BranchAt thread_at) where
+  open moment use {setting as g, roles as who, watched as w, told as x}
+  open thread_at use {core as c, thread as t, state as a, runner as r}
+
   pub errs_followed : StopsIn r.transfer → Errs g r (record { core = a; world = x.state; hand = None }) → IsFollowed g who w x c t r a (slot (home g r) a r.thread)
   errs_followed stops h =
       followed none_rests (λ d u ne. refl) (trapped a r.thread) (Some (Fault r.core h.pos h.kind))
       (ap (stepped (home g r) w.machine r.core r.thread a) h.traps
       ∙ ap (λ f. Some (record { cores = slice_set w.machine.cores r.core (trapped a r.thread); links = w.machine.links; trace = w.machine.trace ++ f ∷ [] })) h.fault)
-      (errs_answered g first is who w x st c t a at_c r runs_r branch known stand stops h)
+      (errs_answered branch_at stops h)

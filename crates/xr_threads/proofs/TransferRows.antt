@@ -34,6 +34,7 @@ use Rattle.xr_threads.proofs.ChannelEnds.{acts_there, end, end_is, is_near, left
 use Rattle.xr_threads.proofs.EndSteps as step
 use Rattle.xr_threads.proofs.EndSteps.{gone_on}
 use Rattle.xr_threads.proofs.InTransfers.{IsFollowed, followed, goes_on_so, in_phase, line_is, moves_on, moves_out, on_core, own_line, pauses, spot_is}
+use Rattle.xr_threads.proofs.Moments.{BranchAt, Moment, ThreadAt}
 use Rattle.xr_threads.proofs.OwnEvents.{rests_alone, rests_there}
 use Rattle.xr_threads.proofs.Protocols.{ack_sent, end_sent, end_taken}
 use Rattle.xr_threads.proofs.Stands.{stands_unwatched}
@@ -48,10 +49,12 @@ use Rattle.xr_wires.proofs.Near.{NearEndCheck, IsNear, Next, NearSend, end_makes
 pub alone_elsewhere : (c : ℕ) (b : Bool) (d : ℕ) → d ≢ c → (nat_eq d c && b) ≡ false
 alone_elsewhere c b d ne = ap (λ k. k && b) (ne_eqb d c ne)
 
-module _ (g : Setting) (first : Roles) (is : IsImageOf g first) (who : Roles) (w : Watched) (x : Told (of_kernel g.program)) (st : Standing g none_rests who w x)
-    (c t : ℕ) (a : CoreState) (at_c : slice_get w.machine.cores c ≡ Some a) (r : Runner) (runs_r : who c t ≡ used_by r None)
-    (branch : Branch) (known : slice_get x.state.branches r.branch ≡ Some branch) (stand : Stand g r false None a x.state (w.lives c t) x.actions branch) (on : branch.mode ≡ runs)
-    (channel : ℕ) (side : Side) where
+module _ {moment : Moment none_rests} {thread_at : ThreadAt moment None} (branch_at : BranchAt thread_at)
+    (on : branch_at.branch.mode ≡ runs) (channel : ℕ) (side : Side) where
+  open moment use {setting as g, image as is, roles as who, watched as w, told as x, standing as st}
+  open thread_at use {core as c, thread as t, state as a, at_core as at_c, runner as r, runs as runs_r}
+  open branch_at use {branch, stand}
+
   abbrev now : ThreadView
   now = record { core = a; world = x.state; hand = None }
 
@@ -88,10 +91,10 @@ module _ (g : Setting) (first : Roles) (is : IsImageOf g first) (who : Roles) (w
     boxes = boxes_in g.program x.state.inboxes
 
     abbrev own_end : ChanEnd
-    own_end = end g first is who w x st c t a at_c r None runs_r channel side line at there
+    own_end = end thread_at channel side line at there
 
     abbrev near_it : IsNear g.image.chans w.machine.cores line (pair_of g.program channel) side (home g r) a own_end
-    near_it = is_near g first is who w x st c t a at_c r None runs_r channel side line at there
+    near_it = is_near thread_at channel side line at there
 
     abbrev thread : Thread
     thread = running r.tie pc regs
@@ -105,16 +108,16 @@ module _ (g : Setting) (first : Roles) (is : IsImageOf g first) (who : Roles) (w
       made_so es is_made made =
           let left = step.left g r a pc regs regs here es in
           followed rests elsewhere left None (ap (stepped (home g r) w.machine r.core r.thread a) is_made)
-          (goes_on_so g first is who w x st c t a at_c r runs_r branch known stand on pc regs here es next rests fewer few (by es)
+          (goes_on_so branch_at on pc regs here es next rests fewer few (by es)
           (wired_moves g is.lines who w.machine x.state st.wired c t a at_c r None runs_r (record r { transfer = next }) None channel side line at there later moves left _ x.state refl made.size refl
-          (left_local g first is who w x st c t a at_c r None runs_r channel side line at there left boxes (spot later false) made.local))
+          (left_local thread_at channel side line at there left boxes (spot later false) made.local))
           alone)
 
       -- tokens go out
       sends_so : (pos : Pos) (ks : List Token) → Acts (home g r) r.thread (end_place g r channel side) thread pos (sends ks) pc regs →
           NearSend g.image.chans is.lines.wired w.machine.cores boxes st.wired.ghosts st.wired.local line (pair_of g.program channel) side (home g r) a own_end near_it r.thread thread ks boxes (spot later false) → Goal
       sends_so pos ks acts result =
-          by_row ((acts_there g first is who w x st c t a at_c r None runs_r channel side line at there r.tie pos (sends ks) pc regs acts).by a own_end here (end_is g first is who w x st c t a at_c r None runs_r channel side line at there)) result
+          by_row ((acts_there thread_at channel side line at there r.tie pos (sends ks) pc regs acts).by a own_end here (end_is thread_at channel side line at there)) result
         where
           by_row : slot (home g r) a r.thread ≡ near.sent_did g.image.chans is.lines.wired w.machine.cores boxes st.wired.ghosts st.wired.local line (pair_of g.program channel) side (home g r) a own_end near_it r.thread thread ks →
               NearSend g.image.chans is.lines.wired w.machine.cores boxes st.wired.ghosts st.wired.local line (pair_of g.program channel) side (home g r) a own_end near_it r.thread thread ks boxes (spot later false) → Goal
@@ -126,7 +129,7 @@ module _ (g : Setting) (first : Roles) (is : IsImageOf g first) (who : Roles) (w
       checks_so : (pos : Pos) → Acts (home g r) r.thread (end_place g r channel side) thread pos (takes 1) pc regs →
           NearEndCheck g.image.chans is.lines.wired w.machine.cores boxes st.wired.ghosts st.wired.local line (pair_of g.program channel) side (home g r) a own_end near_it r.thread thread (spot later false) → Goal
       checks_so pos acts result =
-          by_row ((acts_there g first is who w x st c t a at_c r None runs_r channel side line at there r.tie pos (takes 1) pc regs acts).by a own_end here (end_is g first is who w x st c t a at_c r None runs_r channel side line at there)) result
+          by_row ((acts_there thread_at channel side line at there r.tie pos (takes 1) pc regs acts).by a own_end here (end_is thread_at channel side line at there)) result
         where
           by_row : slot (home g r) a r.thread ≡ near.check_did g.image.chans is.lines.wired w.machine.cores boxes st.wired.ghosts st.wired.local line (pair_of g.program channel) side (home g r) a own_end near_it r.thread thread 1 →
               NearEndCheck g.image.chans is.lines.wired w.machine.cores boxes st.wired.ghosts st.wired.local line (pair_of g.program channel) side (home g r) a own_end near_it r.thread thread (spot later false) → Goal

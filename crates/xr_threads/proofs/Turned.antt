@@ -27,6 +27,7 @@ use Rattle.xr_threads.proofs.Answers.{errs_step, frees_step, goes_step, trap_lea
 use Rattle.xr_threads.proofs.Counts.{counts_own, made_counts, root_counts}
 use Rattle.xr_threads.proofs.Less.{uses_less}
 use Rattle.xr_threads.proofs.Lives.{own_life}
+use Rattle.xr_threads.proofs.Moments.{BranchAt, Moment, ThreadAt}
 use Rattle.xr_threads.proofs.Moves.{works_at}
 use Rattle.xr_threads.proofs.OwnEvents.{OwnStep, alone_on, bound_grows, goes_on_answered, other_branch, parent_waits, rests_alone, rests_there, watched_on, wired_on}
 use Rattle.xr_threads.proofs.OwnLeaves.{leaves_answered, watched_off}
@@ -45,9 +46,11 @@ pub stops_outside : (o : Option Transfer) → o ≡ None → StopsIn o
 stops_outside None e = tt
 stops_outside (Some transfer) e = let both : ◌≡◌ {A = Option Transfer} (Some transfer) None = e in cc
 
-module _ (g : Setting) (first : Roles) (is : IsImageOf g first) (who : Roles) (w : Watched) (x : Told (of_kernel g.program)) (st : Standing g none_rests who w x)
-    (c t : ℕ) (a : CoreState) (at_c : slice_get w.machine.cores c ≡ Some a) (r : Runner) (runs_r : who c t ≡ used_by r None)
-    (branch : Branch) (known : slice_get x.state.branches r.branch ≡ Some branch) (stand : Stand g r false None a x.state (w.lives c t) x.actions branch) where
+module _ {moment : Moment none_rests} {thread_at : ThreadAt moment None} (branch_at : BranchAt thread_at) where
+  open moment use {setting as g, image as is, roles as who, watched as w, told as x, standing as st}
+  open thread_at use {core as c, thread as t, state as a, at_core as at_c, runner as r, runs as runs_r}
+  open branch_at use {branch, known, stand}
+
   abbrev now : ThreadView
   now = record { core = a; world = x.state; hand = None }
 
@@ -58,7 +61,7 @@ module _ (g : Setting) (first : Roles) (is : IsImageOf g first) (who : Roles) (w
   -- what is behind a step of the branch's own
   module _ (e : OwnStep g r c a x.state) where
     abbrev e_watched : Watched
-    e_watched = watched_on g first is who w x st c t a at_c r runs_r e none_rests
+    e_watched = watched_on thread_at e none_rests
 
     same_branch : e.branch ≡ branch
     same_branch = same_Some e.branch branch (sym e.known ∙ known)
@@ -77,7 +80,7 @@ module _ (g : Setting) (first : Roles) (is : IsImageOf g first) (who : Roles) (w
     pub parents_behind : ParentsWait g e.world r.core r.family r.parents r.branch
     parents_behind =
         parents_still g r x.state e.world r.core r.family r.parents r.branch
-        (λ n m. other_branch g first is who w x st c t a at_c r runs_r e n (λ same. not_own n m same)) stand.parents
+        (λ n m. other_branch thread_at e n (λ same. not_own n m same)) stand.parents
       where
         not_own : (n : ℕ) → IsAmong (branches_of r.parents) n → n ≡ r.branch → ⊥
         not_own n m same =
@@ -101,7 +104,7 @@ module _ (g : Setting) (first : Roles) (is : IsImageOf g first) (who : Roles) (w
         (ap (λ l. slice_get l r.branch) h.acts.is_next.branches ∙ Rattle.xl_expr.proofs.Lists.get_set_same x.state.branches r.branch h.acts.branch (record h.acts.branch { items = h.items }) h.acts.known)))
 
     abbrev pub went_watched : Watched
-    went_watched = watched_on g first is who w x st c t a at_c r runs_r went (rests_alone c t)
+    went_watched = watched_on thread_at went (rests_alone c t)
 
     went_stand : Stand g (shrunk r h.items) (rests_alone c t c t) None h.left h.acts.world (went_watched.lives c t) (told_by g.program g.stimulus x (h.acts.action ∷ []) h.acts.world).actions (record h.acts.branch { items = h.items })
     went_stand =
@@ -132,9 +135,9 @@ module _ (g : Setting) (first : Roles) (is : IsImageOf g first) (who : Roles) (w
 
     pub goes_answered : length h.left.words ≡ length a.words → Follows g (rests_alone c t) who w x went_watched
     goes_answered size =
-        goes_on_answered g first is who w x st c t a at_c r runs_r went (rests_alone c t)
-        (wired_on g first is who w x st c t a at_c r runs_r went (rests_alone c t) refl size h.channel_ends h.acts.inboxes)
-        (alone_on g first is who w x st c t a at_c r runs_r went (rests_alone c t) refl (λ f. runs_ended (sym h.acts.mode ∙ f)))
+        goes_on_answered thread_at went (rests_alone c t)
+        (wired_on thread_at went (rests_alone c t) refl size h.channel_ends h.acts.inboxes)
+        (alone_on thread_at went (rests_alone c t) refl (λ f. runs_ended (sym h.acts.mode ∙ f)))
         size went_stand
       where
         runs_ended : runs ≡ ended → ⊥
@@ -146,7 +149,7 @@ module _ (g : Setting) (first : Roles) (is : IsImageOf g first) (who : Roles) (w
     erring = errs_step g r c a x.state stand.thread.thread stand.thread.there stand.thread.tied h
 
     abbrev pub erring_watched : Watched
-    erring_watched = watched_on g first is who w x st c t a at_c r runs_r erring none_rests
+    erring_watched = watched_on thread_at erring none_rests
 
     erring_stand : Stand g (shrunk r []) false None (trapped a r.thread) h.acts.world (erring_watched.lives c t) (told_by g.program g.stimulus x (h.acts.action ∷ []) h.acts.world).actions (failed h.acts.branch)
     erring_stand =
@@ -178,9 +181,9 @@ module _ (g : Setting) (first : Roles) (is : IsImageOf g first) (who : Roles) (w
     errs_answered =
         let t' = trap_leaves g r c a x.state stand.thread.thread stand.thread.there in
         let size = ap length t'.words in
-        goes_on_answered g first is who w x st c t a at_c r runs_r erring none_rests
-        (wired_on g first is who w x st c t a at_c r runs_r erring none_rests refl size t'.channel_ends h.acts.inboxes)
-        (alone_on g first is who w x st c t a at_c r runs_r erring none_rests refl (λ f. erred_ended f))
+        goes_on_answered thread_at erring none_rests
+        (wired_on thread_at erring none_rests refl size t'.channel_ends h.acts.inboxes)
+        (alone_on thread_at erring none_rests refl (λ f. erred_ended f))
         size erring_stand
       where
         erred_ended : erred ≡ ended → ⊥
@@ -208,8 +211,8 @@ module _ (g : Setting) (first : Roles) (is : IsImageOf g first) (who : Roles) (w
     abbrev pub freeing : OwnStep g r c a x.state
     freeing = frees_step g r c a x.state some_roots is_root h
 
-    pub frees_answered : Follows g none_rests who w x (watched_off g first is who w x st c t a at_c r runs_r freeing h.root h.outermost refl h.unused)
-    frees_answered = leaves_answered g first is who w x st c t a at_c r runs_r freeing h.root h.outermost refl h.unused none h.channel_ends h.acts.inboxes (ap length h.words)
+    pub frees_answered : Follows g none_rests who w x (watched_off thread_at freeing h.root h.outermost refl h.unused)
+    frees_answered = leaves_answered thread_at freeing h.root h.outermost refl h.unused none h.channel_ends h.acts.inboxes (ap length h.words)
 
   -- a tied thread, which is in no transfer, waits
   module _ (none : r.transfer ≡ None) (h : Waits g r now) where
@@ -217,7 +220,7 @@ module _ (g : Setting) (first : Roles) (is : IsImageOf g first) (who : Roles) (w
     pub is_made : (b : Branch) → slice_get x.state.branches r.branch ≡ Some b → counts c b ≡ 0
     is_made b at =
         let k = st.roles.tied c t h.sync r None runs_r h.tied in
-        let owner = works_at g first is none_rests who w x st c k.0 k.2 k.3 k.5 in
+        let owner = works_at moment c k.0 k.2 k.3 k.5 in
         let q = parent_of g x.state k.2.core k.2.family k.2.branch k.2.parents k.4 owner.parents k.6 in
         let started = st.roles.started c t r None runs_r in
         let own : r.branch ≡ r.family = subst (λ ps. outermost r.branch ps ≡ r.family) h.outermost started in
@@ -230,7 +233,7 @@ module _ (g : Setting) (first : Roles) (is : IsImageOf g first) (who : Roles) (w
     waiting = waits_step g r c a x.state is_made h
 
     abbrev pub waiting_watched : Watched
-    waiting_watched = watched_on g first is who w x st c t a at_c r runs_r waiting none_rests
+    waiting_watched = watched_on thread_at waiting none_rests
 
     waiting_stand : Stand g (shrunk r []) false None h.left h.acts.world (waiting_watched.lives c t) (told_by g.program g.stimulus x (h.acts.action ∷ []) h.acts.world).actions (finished h.acts.branch)
     waiting_stand =
@@ -257,8 +260,8 @@ module _ (g : Setting) (first : Roles) (is : IsImageOf g first) (who : Roles) (w
 
     pub waits_answered : Follows g none_rests who w x waiting_watched
     waits_answered =
-        goes_on_answered g first is who w x st c t a at_c r runs_r waiting none_rests
-        (wired_on g first is who w x st c t a at_c r runs_r waiting none_rests refl (ap length h.words) h.channel_ends h.acts.inboxes)
+        goes_on_answered thread_at waiting none_rests
+        (wired_on thread_at waiting none_rests refl (ap length h.words) h.channel_ends h.acts.inboxes)
         (λ transfer f. absurd (none_some transfer (sym none ∙ f)))
         (ap length h.words) waiting_stand
       where
