@@ -192,7 +192,7 @@ module _ {moment : Moment none_rests} (thread_at : ThreadAt moment None)
           world = x.state;
           acted = refl;
           standing = answered thread_at o self left x.state effect may_rest' who_next watched_next []
-              (has_stepped thread_at o self left x.state effect None (e.touched x.state).size)
+              (has_stepped thread_at o self left x.state effect None (e.touched x.state).sizes)
               (record {
                 acted = refl;
                 clocks = clocks_still thread_at o self left x.state effect None;

@@ -82,7 +82,7 @@ module _ (g : Setting) (r : Runner) (c : ℕ) (a : CoreState) (x : World) where
           others = λ u ne free. get_set_other a.threads r.thread u th' ne;
           as_many = length-set a.threads r.thread th';
           words = λ w n. refl;
-          size = refl;
+          sizes = refl;
           resources = others_same _ _ _ _ refl refl refl;
         };
         roots = refl;

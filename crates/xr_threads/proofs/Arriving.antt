@@ -19,10 +19,11 @@ use Rattle.xc_kernel.specs.Eval.{words_of}
 use Rattle.xl_expr.proofs.Lists.{get_set_same, get_set_other, room_kept}
 use Rattle.xl_expr.proofs.ResourceParts.{others_fewer, others_same, own_fewer, part_same, port_same}
 use Rattle.xr_threads.specs.Runners.{IsMine, Setting, Runner, IsPort, MayChange, of_stack, home, is_among_words, is_word_among, places, port_place, relied}
+use Rattle.xr_threads.specs.Sizes.{Sizes}
 use Rattle.xr_threads.specs.ThreadViews.{ThreadView, Rely, IsSilentStep, SameUse, StillRuns, after, keeps, running, LeadsIn}
 use Rattle.xr_threads.specs.Turns.{IsAt}
 use Rattle.xr_threads.proofs.Declared.{declared_there, same_declared}
-use Rattle.xr_threads.proofs.Sizes.{same_size}
+use Rattle.xr_threads.proofs.Sizes.{same_sizes}
 use Rattle.xl_expr.specs.PartSteps.{KeptParts, PartsStep, WithinParts}
 use Rattle.xl_expr.specs.ResourceParts.{part_of, port_alone}
 
@@ -174,7 +175,7 @@ module _ (g : Setting) (r : Runner) where
             others = λ u ne not_held. others u ne;
             as_many = ap (λ (c : CoreState). length c.threads) step.left ∙ length-set y.core.threads r.thread th';
             words = λ w not_mine. ap (λ (c : CoreState). slice_get c.words w) step.left ∙ step.words w (safe w not_mine);
-            size = same_size (home g r) y.core r.thread b step.made;
+            sizes = same_sizes (home g r) y.core r.thread b step.made;
             resources = others_same (IsMine g r) r.thread y.core b (ap (λ (c : CoreState). c.ports) step.left) (ap (λ (c : CoreState). c.timers) step.left) (ap (λ (c : CoreState). c.events) step.left);
           };
           hand = keeps refl (ap (λ (c : CoreState). c.syncs) step.left) (same_use y (after g r y b) others);
@@ -191,7 +192,7 @@ module _ (g : Setting) (r : Runner) where
           ∙ h.parts res m s;
       branch = h.branch;
       store = h.store;
-      room = λ was. let same = same_size (home g r) y.core r.thread b step.made in let before = h.room was in omega arith;
+      room = λ was. let same = ap (λ (s : Sizes). s.words) (same_sizes (home g r) y.core r.thread b step.made) in let before = h.room was in omega arith;
       declared = λ q other port is_port there. declared_on z y b h.declared step.made q other port is_port there;
       hand = h.hand;
       on = (own_silent y b h.on step).on;
@@ -229,7 +230,7 @@ module _ (g : Setting) (r : Runner) where
               others = λ u ne not_held. others u ne;
               as_many = ap (λ (c : CoreState). length c.threads) step.left ∙ length-set y.core.threads r.thread th';
               words = λ w not_mine. ap (λ (c : CoreState). slice_get c.words w) step.left ∙ step.words w (safe w not_mine);
-              size = same_size (home g r) y.core r.thread b step.made;
+              sizes = same_sizes (home g r) y.core r.thread b step.made;
               resources = others_fewer mine r.thread y.core b (IsMine g r) own step.resources;
             };
             hand = keeps refl (ap (λ (c : CoreState). c.syncs) step.left) (same_use y (after g r y b) others);
@@ -244,7 +245,7 @@ module _ (g : Setting) (r : Runner) where
         parts = λ res m s. step.resources.parts res s ∙ h.parts res m s;
         branch = h.branch;
         store = h.store;
-        room = λ was. let same = same_size (home g r) y.core r.thread b step.made in let before = h.room was in omega arith;
+        room = λ was. let same = ap (λ (s : Sizes). s.words) (same_sizes (home g r) y.core r.thread b step.made) in let before = h.room was in omega arith;
         declared = λ q other port is_port there. declared_on z y b h.declared step.made q other port is_port there;
         hand = h.hand;
         on = (parts_silent y b h.on step).on;

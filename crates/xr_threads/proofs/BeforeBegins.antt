@@ -23,6 +23,7 @@ use Rattle.xr_threads.specs.Images.{IsImageOf}
 use Rattle.xr_threads.specs.Parents.{Parent}
 use Rattle.xr_threads.specs.Roles.{AreUsedSo, HandFits, Role, Roles, empty, got_by, gives_back, opens, unused, used_by}
 use Rattle.xr_threads.specs.Runners.{Setting, Runner, home}
+use Rattle.xr_threads.specs.Sizes.{sizes_of}
 use Rattle.xr_threads.specs.ThreadViews.{ThreadView, held_in, running, sync_in}
 use Rattle.xr_threads.specs.Standing.{AreLoose, EventsAre, HasEnded, IfTrue, IsAtRest, IsOnItsWay, IsResuming, Stand, Standing, Stands, StandsBy, StandsWith, ThreadIs, none_rests}
 use Rattle.xr_threads.specs.Turns.{IsFree, Joins, Turns}
@@ -283,7 +284,7 @@ module _ (g : Setting) (who : Roles) (is : IsImageOf g who) where
           let d = boot_cores_are g.image c a e in
           subst (λ i. Stands g false i x.state (begun (Some (of_root c t))) x.actions (who' c t)) (sym d.1) (all_so c t d.0 (begun (Some (of_root c t))) refl (who' c t) refl);
       loose = λ c a e some. let d = boot_cores_are g.image c a e in subst (λ i. AreLoose g who' c i x.state) (sym d.1) (loose_so c d.0 some);
-      sizes = λ c a e. let d = boot_cores_are g.image c a e in ap (λ (i : CoreState). length i.words) d.1 ∙ st.sizes c (set_on g who is c) (set_core_at c d.0);
+      sizes = λ c a e. let d = boot_cores_are g.image c a e in ap sizes_of d.1 ∙ st.sizes c (set_on g who is c) (set_core_at c d.0);
       roots = λ c a e. let d = boot_cores_are g.image c a e in ap (λ (i : CoreState). i.roots) d.1 ∙ st.roots c (set_on g who is c) (set_core_at c d.0);
       placed = st.placed;
       run = st.run;

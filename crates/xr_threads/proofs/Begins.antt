@@ -25,6 +25,7 @@ use Rattle.xr_threads.specs.Items.{EndAt, ItemsAt}
 use Rattle.xr_threads.specs.Parents.{syncs_of}
 use Rattle.xr_threads.specs.Roles.{AreUsedSo, IsParent, ParentsWait, Role, Roles, empty, got_by, unused, used_by}
 use Rattle.xr_threads.specs.Runners.{Block, Setting, Runner, IsPort, anyone, code, footprint_of, home, plan, port_place}
+use Rattle.xr_threads.specs.Sizes.{sizes_of}
 use Rattle.xr_threads.specs.ThreadViews.{ThreadView, giving_back, running}
 use Rattle.xr_threads.specs.Standing.{AreLoose, HasThread, Stand, Standing, Stands, StandsBy, StandsWith}
 use Rattle.xr_threads.specs.Transfers.{StopsIn}
@@ -35,6 +36,7 @@ use Rattle.xr_threads.proofs.RootCode.{root_items}
 use Rattle.xr_threads.proofs.Shrinks.{fits_here}
 use Rattle.xr_threads.proofs.SetMachine.{set_cores_are, set_machine}
 use Rattle.xr_threads.proofs.Stands.{items_stand}
+use Rattle.xr_threads.proofs.Sizes.{sizes_begin}
 use Rattle.xr_threads.proofs.StartWires.{none_begun, wired_begin}
 use Rattle.xr_threads.proofs.Starts.{IsRootBranch, RunsRoot, branch_of, known_root, no_place, none_got, on_four, owns_none, roles_begin, root_of, roots_live, variable_length, variable_zero, words_zero}
 use Rattle.xr_threads.proofs.Watching.{here_at, items_unwatched}
@@ -241,7 +243,7 @@ module _ (g : Setting) (who : Roles) (is : IsImageOf g who) where
     used = λ c a e. let d = set_cores_are who g.image c a e in subst (AreUsedSo who c) (sym d.1) (used_begin c d.0);
     threads = λ c t a e. let d = set_cores_are who g.image c a e in subst (λ i. Stands g true i start (set_life c t) (λ f. 0) (who c t)) (sym d.1) (threads_stand (set_life c t) refl c t (who c t) refl);
     loose = λ c a e some. let d = set_cores_are who g.image c a e in subst (λ i. AreLoose g who c i start) (sym d.1) (loose_begin c d.0 some);
-    sizes = λ c a e. let d = set_cores_are who g.image c a e in ap (λ (i : CoreState). length i.words) d.1 ∙ length-replicate {A = ℕ} (parts_in g.image.cores c).words 0;
+    sizes = λ c a e. let d = set_cores_are who g.image c a e in ap sizes_of d.1 ∙ sizes_begin (parts_in g.image.cores c);
     roots = λ c a e. let d = set_cores_are who g.image c a e in ap (λ (i : CoreState). i.roots) d.1 ∙ is.count c d.0;
     placed = λ b branch e. let root = known_root g who is b branch e in let core = root.1.core in let lt = is.placed b root.0 root.2 in omega (arith, core, lt);
     run = λ b branch e on.

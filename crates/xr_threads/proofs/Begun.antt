@@ -26,6 +26,7 @@ use Rattle.xr_match.specs.Systems.{SomeIs}
 use Rattle.xr_threads.specs.Images.{IsImageOf}
 use Rattle.xr_threads.specs.Parents.{Parent, branches_of}
 use Rattle.xr_threads.specs.Runners.{Block, Footprint, Setting, Runner, code, footprint_of, outside, places, plan, plan_in}
+use Rattle.xr_threads.specs.Sizes.{Sizes}
 use Rattle.xr_threads.specs.ThreadViews.{Owns, giving_back, running, sync_in}
 use Rattle.xr_threads.proofs.Counts.{living_after}
 use Rattle.xr_threads.proofs.Moments.{Moment, ThreadAt}
@@ -567,7 +568,7 @@ module _ {moment : Moment none_rests} {hand : Option Hand} (thread_at : ThreadAt
       let lt = st.roles.there c t r hand runs_r in
       let core = is.cores c lt (omega (arith, inside)) in
       let room = core.room u inside in
-      let size = st.sizes c a at_c in
+      let size = ap (λ (s : Sizes). s.words) (st.sizes c a at_c) in
       let stacks = core.stacks in
       let plan_is : (plan g r).first_stack ≡ (g.plans c).first_stack = ap (λ (k : Block). (plan_in (g.plans r.core) k.plan).first_stack) outermost_block ∙ ap (λ k. (g.plans k).first_stack) core_is in
       let sp = off.stack in

@@ -25,7 +25,7 @@ use Rattle.xr_threads.specs.Turns.{HasBases, HoldsNames, IsAt, IsJoining, Joins,
 use Rattle.xr_threads.proofs.Arriving.{at_runs, runs_still, same_use}
 use Rattle.xr_threads.proofs.Layouts.{runs_at}
 use Rattle.xr_threads.proofs.ThreadViews.{leads_as}
-use Rattle.xr_threads.proofs.Sizes.{same_size}
+use Rattle.xr_threads.proofs.Sizes.{same_sizes}
 
 -- each name but the first stands one register further down
 names_back : (core sync : ℕ) (syncs : List ℕ) (old regs : Regs) → length syncs ≤ 6 → HoldsOuter old regs → HoldsNames core (sync ∷ syncs) old → HoldsNames core syncs regs
@@ -61,7 +61,7 @@ module _ (g : Setting) (r : Runner) (n : ℕ) where
           others = λ u ne not_held. others u ne;
           as_many = ap (λ (c : CoreState). length c.threads) step.left ∙ length-set y.core.threads r.thread th';
           words = λ w not_mine. ap (λ (c : CoreState). slice_get c.words w) step.left ∙ step.words w tt;
-          size = same_size (home g r) y.core r.thread b step.made;
+          sizes = same_sizes (home g r) y.core r.thread b step.made;
           resources = others_same _ _ _ _ (ap (λ (c : CoreState). c.ports) step.left) (ap (λ (c : CoreState). c.timers) step.left) (ap (λ (c : CoreState). c.events) step.left);
         };
         hand = keeps refl (ap (λ (c : CoreState). c.syncs) step.left) (same_use g r y (after g r y b) others);

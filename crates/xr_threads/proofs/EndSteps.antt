@@ -29,7 +29,7 @@ module _ (g : Setting) (r : Runner) (a : CoreState) (pc : ℕ) (regs regs' : Reg
     others = λ u ne free. get_set_other a.threads r.thread u (running r.tie (pc + 1) regs') ne;
     as_many = length-set a.threads r.thread (running r.tie (pc + 1) regs');
     words = λ w n. refl;
-    size = refl;
+    sizes = refl;
     resources = others_same _ _ _ _ refl refl refl;
   }
 

@@ -188,7 +188,7 @@ module _ (moment : Moment none_rests)
       go_goal : r.transfer ≡ None → (j : ℕ) → j ≤ stand.left → Goes g r j alone → Leaves (slot (home g r) a r.thread) → Goal
       go_goal outside j few h e =
           goal_of (rests_alone c t) (λ d u ne. alone_elsewhere c (nat_eq u t) d ne) h.left h.made (ap (stepped (home g r) w.machine r.core r.thread a) h.made_is) e
-          (goes_answered here_alone outside j few h h.touched.size)
+          (goes_answered here_alone outside j few h)
 
       free_goal : r.transfer ≡ None → Frees g r alone → Leaves (slot (home g r) a r.thread) → Goal
       free_goal outside h e =

@@ -16,12 +16,13 @@ use Rattle.xl_par.specs.Hands as hands
 use Rattle.xl_par.specs.Hands.{Hand, HandStep, HasSpare, IsAmong, KeptHand, WithinHand, own_only, with_sync, with_thread_got}
 use Rattle.xr_threads.specs.Runners.{Setting, Runner, home, port_place, relied}
 use Rattle.xr_threads.specs.ThreadViews as views
+use Rattle.xr_threads.specs.Sizes.{sizes_of}
 use Rattle.xr_threads.specs.ThreadViews.{Guarantee, HandChange, IsSilentStep, LeadsIn, Rely, SameUse, SpareFor, StillRuns, ThreadView, held_in, sync_in}
 use Rattle.xr_threads.specs.Turns.{Has}
 use Rattle.xr_threads.proofs.Arriving.{same_use, stack_relied}
 use Rattle.xr_threads.proofs.Layouts.{has_kept, ports_last}
 use Rattle.xr_threads.proofs.Pools.{first_free_is, first_unused}
-use Rattle.xr_threads.proofs.Sizes.{same_size}
+use Rattle.xr_threads.proofs.Sizes.{same_sizes}
 
 module _ (g : Setting) (r : Runner) where
   -- a thread of another mode is another one
@@ -79,7 +80,7 @@ module _ (g : Setting) (r : Runner) where
             others = λ u ne free. others u ne;
             as_many = ap (λ (c : CoreState). length c.threads) left ∙ length-set y.core.threads r.thread th';
             words = λ w mine. all_words w;
-            size = same_size (home g r) y.core r.thread b step.made;
+            sizes = same_sizes (home g r) y.core r.thread b step.made;
             resources = others_same _ _ _ _ (ap (λ (c : CoreState). c.ports) left) (ap (λ (c : CoreState). c.timers) left) (ap (λ (c : CoreState). c.events) left);
           };
           roots = ap (λ (c : CoreState). c.roots) left;
@@ -98,7 +99,7 @@ module _ (g : Setting) (r : Runner) where
             others = λ u ne free. others u ne;
             as_many = ap (λ (c : CoreState). length c.threads) left ∙ length-set y.core.threads r.thread th';
             words = λ w mine. ap (λ (c : CoreState). slice_get c.words w) left;
-            size = ap (λ (c : CoreState). length c.words) left;
+            sizes = ap sizes_of left;
             resources = others_same _ _ _ _ (ap (λ (c : CoreState). c.ports) left) (ap (λ (c : CoreState). c.timers) left) (ap (λ (c : CoreState). c.events) left);
           };
           roots = ap (λ (c : CoreState). c.roots) left;
@@ -121,7 +122,7 @@ module _ (g : Setting) (r : Runner) where
             others = λ v ne free. rest v ne (λ e. free (subst (λ (h : Hand). IsAmong h.threads v) (sym same) (inl e)));
             as_many = ap (λ (c : CoreState). length c.threads) left ∙ length-set threads r.thread th' ∙ length-set y.core.threads u (tied_to n x);
             words = λ w mine. ap (λ (c : CoreState). slice_get c.words w) left;
-            size = ap (λ (c : CoreState). length c.words) left;
+            sizes = ap sizes_of left;
             resources = others_same _ _ _ _ (ap (λ (c : CoreState). c.ports) left) (ap (λ (c : CoreState). c.timers) left) (ap (λ (c : CoreState). c.events) left);
           };
           roots = ap (λ (c : CoreState). c.roots) left;
@@ -144,7 +145,7 @@ module _ (g : Setting) (r : Runner) where
             others = λ v ne free. rest v ne (λ e. free (subst (λ (h : Hand). IsAmong h.threads v) (sym same) (subst (IsAmong hand.threads) (sym e) among)));
             as_many = ap (λ (c : CoreState). length c.threads) left ∙ length-set threads r.thread th' ∙ length-set y.core.threads u x';
             words = λ w mine. ap (λ (c : CoreState). slice_get c.words w) left;
-            size = ap (λ (c : CoreState). length c.words) left;
+            sizes = ap sizes_of left;
             resources = others_same _ _ _ _ (ap (λ (c : CoreState). c.ports) left) (ap (λ (c : CoreState). c.timers) left) (ap (λ (c : CoreState). c.events) left);
           };
           roots = ap (λ (c : CoreState). c.roots) left;

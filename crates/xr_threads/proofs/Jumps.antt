@@ -53,7 +53,7 @@ module _ (g : Setting) (r : Runner) where
           others = λ u ne not_held. get_set_other y.core.threads r.thread u th' ne;
           as_many = length-set y.core.threads r.thread th';
           words = λ w n. refl;
-          size = refl;
+          sizes = refl;
           resources = others_same _ _ _ _ refl refl refl;
         };
         hand = keeps refl refl (same_use g r y (after g r y (moved_to y.core pc p regs)) (λ u ne. get_set_other y.core.threads r.thread u th' ne));

@@ -21,6 +21,7 @@ use Rattle.xr_threads.specs.Images.{IsImageOf}
 use Rattle.xr_threads.specs.Parents.{Parent, branches_of, sync_before, syncs_of}
 use Rattle.xr_threads.specs.Roles.{AreRoles, AreUsedSo, HasReserves, IsParent, ParentsWait, Role, Roles, got_by, own_branches, unused, used_by}
 use Rattle.xr_threads.specs.Runners.{IsMine, Setting, Runner, IsLaidOut, MayChange}
+use Rattle.xr_threads.specs.Sizes.{sizes_in, sizes_of}
 use Rattle.xr_threads.specs.ThreadViews.{Owns, Rely, SpareFor, ThreadView, sync_in}
 use Rattle.xr_threads.specs.Standing.{AreLoose, IsMade, IsRun, Standing, Stands, living_on}
 use Rattle.xr_threads.specs.Transfers.{Transfer}
@@ -49,7 +50,7 @@ pub record HasStepped (w w' : Watched) (c : ℕ) (a b : CoreState) : Type 0 wher
   pub is : slice_get w'.machine.cores c ≡ Some b
   pub others : (d : ℕ) (e : CoreState) → d ≢ c → slice_get w.machine.cores d ≡ Some e → (f : CoreState) × (slice_get w'.machine.cores d ≡ Some f) × IsSameButEnds e f
   pub as_many : length w'.machine.cores ≡ length w.machine.cores
-  pub size : length b.words ≡ length a.words
+  pub sizes : sizes_of b ≡ sizes_of a
 
 -- another core that has stayed
 pub other_same : (w w' : Watched) (d : ℕ) (e : CoreState) → slice_get w'.machine.cores d ≡ slice_get w.machine.cores d → slice_get w.machine.cores d ≡ Some e → (f : CoreState) × (slice_get w'.machine.cores d ≡ Some f) × IsSameButEnds e f
@@ -177,8 +178,8 @@ moves g may_rest may_rest' who who' w w' x c a b moved piece y st step next =
           (cases_eq d c);
       sizes = λ d e at.
           ⊎_elim
-          (λ (h : d ≡ c). ap (λ (f : CoreState). length f.words) (sym (is_b d e h at)) ∙ step.size ∙ st.sizes c a step.was ∙ ap (λ k. (parts_in g.image.cores k).words) (sym h))
-          (λ (ne : d ≢ c). let o = far d e ne at in ap (λ (f : CoreState). length f.words) o.2.is ∙ st.sizes d o.0 o.1)
+          (λ (h : d ≡ c). ap sizes_of (sym (is_b d e h at)) ∙ step.sizes ∙ st.sizes c a step.was ∙ ap (λ k. sizes_in (parts_in g.image.cores k)) (sym h))
+          (λ (ne : d ≢ c). let o = far d e ne at in ap sizes_of o.2.is ∙ st.sizes d o.0 o.1)
           (cases_eq d c);
       wired = next.wired;
       alone = λ d u s hand transfer is its.

@@ -288,7 +288,7 @@ module _ (g : Setting) (r : Runner) (laid : IsLaidOut g r) (o : kernel.Output) (
                   others = λ u ne not_held. get_set_other x.core.threads r.thread u (running r.tie pc' w.regs) ne;
                   as_many = length-set x.core.threads r.thread (running r.tie pc' w.regs);
                   words = λ n not_mine. refl;
-                  size = refl;
+                  sizes = refl;
                   resources = others_fewer _ _ _ _ (IsMine g r) (alone_mine g r p out.listed out.is)
                       (others_of_port r.thread place x.core left (λ q n. get_set_other x.core.ports place q (moved_at (set_for time port) (counter x.core.clock)) n) refl refl);
                 };

@@ -347,8 +347,8 @@ module _ {moment : Moment none_rests} (thread_at : ThreadAt moment None)
     }
 
     -- and where ends and inboxes stay, the channels are wired as before
-    pub wired_on : e.transfer ≡ r.transfer → length e.left.words ≡ length a.words → e.left.ends ≡ a.ends → e.world.inboxes ≡ x.state.inboxes → AreWired g who_on watched_on.machine e.world
-    wired_on same size ends boxes =
+    pub wired_on : e.transfer ≡ r.transfer → e.left.ends ≡ a.ends → e.world.inboxes ≡ x.state.inboxes → AreWired g who_on watched_on.machine e.world
+    wired_on same ends boxes =
         wired_still g who who_on w.machine watched_on.machine c a e.left x.state e.world (own_transfers same) at_c refl ends boxes st.wired
 
     -- a branch that hasn't ended has its side for itself still
@@ -361,7 +361,7 @@ module _ {moment : Moment none_rests} (thread_at : ThreadAt moment None)
 
     module _ (wired : AreWired g who_on watched_on.machine e.world)
         (alone : (transfer : Transfer) → e.transfer ≡ Some transfer → HasAlone e.world.branches transfer.channel transfer.side r.branch)
-        (size : length e.left.words ≡ length a.words) (stand : Stand g s (may_rest' c t) None e.left e.world (watched_on.lives c t) (told_by g.program g.stimulus x piece e.world).actions e.next) where
+        (stand : Stand g s (may_rest' c t) None e.left e.world (watched_on.lives c t) (told_by g.program g.stimulus x piece e.world).actions e.next) where
       own_stand : (u : ℕ) → only_thread t u ≡ true → Stands g (may_rest' c u) e.left e.world (watched_on.lives c u) (told_by g.program g.stimulus x piece e.world).actions (who_on c u)
       own_stand u m =
           let actions = (told_by g.program g.stimulus x piece e.world).actions in
@@ -386,7 +386,7 @@ module _ {moment : Moment none_rests} (thread_at : ThreadAt moment None)
             world = e.world;
             acted = all_acted;
             standing = answered thread_at o self e.left e.world own_effect may_rest' who_on watched_on piece
-                (has_stepped thread_at o self e.left e.world own_effect e.made size)
+                (has_stepped thread_at o self e.left e.world own_effect e.made e.touched.sizes)
                 (record {
                   acted = all_acted;
                   clocks = clocks_still thread_at o self e.left e.world own_effect e.made;

@@ -113,8 +113,8 @@ module _ {moment : Moment none_rests} (thread_at : ThreadAt moment None)
       none_some : (transfer : Transfer) → ◌≡◌ {A = Option Transfer} None (Some transfer) → ⊥
       none_some transfer f = cc
 
-  pub leaves_answered : r.transfer ≡ None → e.left.ends ≡ a.ends → e.world.inboxes ≡ x.state.inboxes → length e.left.words ≡ length a.words → Follows g none_rests who w x watched_off
-  leaves_answered none ends boxes size =
+  pub leaves_answered : r.transfer ≡ None → e.left.ends ≡ a.ends → e.world.inboxes ≡ x.state.inboxes → Follows g none_rests who w x watched_off
+  leaves_answered none ends boxes =
       let o = only_thread t in
       let self = eq-eqb t t refl in
       record {
@@ -123,7 +123,7 @@ module _ {moment : Moment none_rests} (thread_at : ThreadAt moment None)
         world = e.world;
         acted = acted;
         standing = answered thread_at o self e.left e.world effect none_rests who_off watched_off piece
-            (has_stepped thread_at o self e.left e.world effect e.made size)
+            (has_stepped thread_at o self e.left e.world effect e.made e.touched.sizes)
             (record {
               acted = acted;
               clocks = clocks_still thread_at o self e.left e.world effect e.made;

@@ -166,4 +166,4 @@ module _ {moment : Moment none_rests} {thread_at : ThreadAt moment None} (branch
       AreWired g (with_role who c t (used_by s None)) watched.machine world →
       ((which : Transfer) → transfer ≡ Some which → HasAlone world.branches which.channel which.side r.branch) → Follows g rests who w x watched
   does_so rests j further few enough by wired alone =
-      goes_on_answered thread_at own_step rests wired alone refl (own_stand (rests c t) j further few enough by)
+      goes_on_answered thread_at own_step rests wired alone (own_stand (rests c t) j further few enough by)

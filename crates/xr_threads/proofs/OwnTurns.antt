@@ -26,6 +26,7 @@ use Rattle.xr_threads.specs.ThreadViews.{ThreadView, running}
 use Rattle.xr_threads.specs.Turns.{HasBases, Has, IsAt, ItemsFrom, Goes, SameStamps, StandsAt, first_changes, own_go}
 use Rattle.xr_threads.proofs.Evaluations.{runs_with, with_items}
 use Rattle.xr_threads.proofs.Layouts.{ports_last}
+use Rattle.xr_threads.proofs.Sizes.{words_sized}
 use Rattle.xr_threads.proofs.Stands.{items_stand, stamps_left, stands_unwatched}
 use Rattle.xr_threads.proofs.Watching.{here_at}
 
@@ -67,7 +68,7 @@ module _ (g : Setting) (r : Runner) where
           others = λ u ne not_held. get_set_other y.core.threads r.thread u th' ne;
           as_many = length-set y.core.threads r.thread th';
           words = made.others;
-          size = made.size;
+          sizes = words_sized y.core left made.size refl refl;
           resources = others_same _ _ _ _ refl refl refl;
         };
         roots = refl;

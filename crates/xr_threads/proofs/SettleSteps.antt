@@ -238,7 +238,7 @@ module _ {may_rest : (core thread : ℕ) → Bool} {moment : Moment may_rest} (t
       pub settled : Standing g may_rest' who_settled w (told_by g.program g.stimulus x piece y)
       settled =
           answered thread_at (λ u. nat_eq u t) (eq-eqb t t refl) a y settled_effect may_rest' who_settled w piece
-          (record { was = at_c; is = at_c; others = λ i e ne at. other_same w w i e refl at; as_many = refl; size = refl })
+          (record { was = at_c; is = at_c; others = λ i e ne at. other_same w w i e refl at; as_many = refl; sizes = refl })
           (record {
             acted = d.acted;
             clocks = st.clocks ∙ sym d.clocks;

@@ -218,7 +218,7 @@ module _ {moment : Moment none_rests} {hand : Option Hand} {thread_at : ThreadAt
       world = x.state;
       acted = refl;
       standing = answered thread_at moved s.own b x.state silent_effect none_rests who' silent_watched []
-          (has_stepped thread_at moved s.own b x.state silent_effect None touched.size)
+          (has_stepped thread_at moved s.own b x.state silent_effect None touched.sizes)
           (record {
             acted = refl;
             clocks = clocks_still thread_at moved s.own b x.state silent_effect None;

@@ -20,6 +20,7 @@ use Rattle.xr_match.specs.Sources.{Told}
 use Rattle.xr_threads.specs.Images.{IsImageOf}
 use Rattle.xr_threads.specs.Roles.{AreRoles, AreUsedSo, HasReserves, Roles, used_by}
 use Rattle.xr_threads.specs.Runners.{Setting, Runner}
+use Rattle.xr_threads.specs.Sizes.{sizes_of}
 use Rattle.xr_threads.specs.Standing.{AreLoose, IsMade, IsRun, Standing, Stands, living_on}
 use Rattle.xr_threads.specs.Transfers.{Transfer}
 use Rattle.xr_threads.specs.Wired.{AreWired, HasAlone}
@@ -168,13 +169,13 @@ module _ {may_rest : (core thread : ℕ) → Bool} {moment : Moment may_rest} {h
     abbrev pub watched : Watched
     watched = watched_after w (Step c t) machine_after
 
-    pub has_stepped : length b.words ≡ length a.words → HasStepped w watched c a b
-    has_stepped size = record {
+    pub has_stepped : sizes_of b ≡ sizes_of a → HasStepped w watched c a b
+    has_stepped sizes = record {
       was = at_c;
       is = get_set_same w.machine.cores c a b at_c;
       others = λ d e ne at. other_same w watched d e (get_set_other w.machine.cores c d b ne) at;
       as_many = length-set w.machine.cores c b;
-      size = size;
+      sizes = sizes;
     }
 
     -- a life that isn't moved is as long

@@ -103,7 +103,7 @@ module _ (moment : Moment none_rests)
     is = get_set_same w.machine.cores c a (ticked a) at_c;
     others = λ d e ne at. other_same w watched_ticked d e (get_set_other w.machine.cores c d (ticked a) ne) at;
     as_many = length-set w.machine.cores c (ticked a);
-    size = refl;
+    sizes = refl;
   }
 
   same_transfers : TransfersAsBefore who who

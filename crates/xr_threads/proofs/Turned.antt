@@ -133,12 +133,12 @@ module _ {moment : Moment none_rests} {thread_at : ThreadAt moment None} (branch
         runs_ended : runs ≡ ended → ⊥
         runs_ended f = cc
 
-    pub goes_answered : length h.left.words ≡ length a.words → Follows g (rests_alone c t) who w x went_watched
-    goes_answered size =
+    pub goes_answered : Follows g (rests_alone c t) who w x went_watched
+    goes_answered =
         goes_on_answered thread_at went (rests_alone c t)
-        (wired_on thread_at went (rests_alone c t) refl size h.channel_ends h.acts.inboxes)
+        (wired_on thread_at went (rests_alone c t) refl h.channel_ends h.acts.inboxes)
         (alone_on thread_at went (rests_alone c t) refl (λ f. runs_ended (sym h.acts.mode ∙ f)))
-        size went_stand
+        went_stand
       where
         runs_ended : runs ≡ ended → ⊥
         runs_ended f = cc
@@ -180,11 +180,10 @@ module _ {moment : Moment none_rests} {thread_at : ThreadAt moment None} (branch
     pub errs_answered : Follows g none_rests who w x erring_watched
     errs_answered =
         let t' = trap_leaves g r c a x.state stand.thread.thread stand.thread.there in
-        let size = ap length t'.words in
         goes_on_answered thread_at erring none_rests
-        (wired_on thread_at erring none_rests refl size t'.channel_ends h.acts.inboxes)
+        (wired_on thread_at erring none_rests refl t'.channel_ends h.acts.inboxes)
         (alone_on thread_at erring none_rests refl (λ f. erred_ended f))
-        size erring_stand
+        erring_stand
       where
         erred_ended : erred ≡ ended → ⊥
         erred_ended f = cc
@@ -212,7 +211,7 @@ module _ {moment : Moment none_rests} {thread_at : ThreadAt moment None} (branch
     freeing = frees_step g r c a x.state some_roots is_root h
 
     pub frees_answered : Follows g none_rests who w x (watched_off thread_at freeing h.root h.outermost refl h.unused)
-    frees_answered = leaves_answered thread_at freeing h.root h.outermost refl h.unused none h.channel_ends h.acts.inboxes (ap length h.words)
+    frees_answered = leaves_answered thread_at freeing h.root h.outermost refl h.unused none h.channel_ends h.acts.inboxes
 
   -- a tied thread, which is in no transfer, waits
   module _ (none : r.transfer ≡ None) (h : Waits g r now) where
@@ -261,9 +260,9 @@ module _ {moment : Moment none_rests} {thread_at : ThreadAt moment None} (branch
     pub waits_answered : Follows g none_rests who w x waiting_watched
     waits_answered =
         goes_on_answered thread_at waiting none_rests
-        (wired_on thread_at waiting none_rests refl (ap length h.words) h.channel_ends h.acts.inboxes)
+        (wired_on thread_at waiting none_rests refl h.channel_ends h.acts.inboxes)
         (λ transfer f. absurd (none_some transfer (sym none ∙ f)))
-        (ap length h.words) waiting_stand
+        waiting_stand
       where
         none_some : (transfer : Transfer) → ◌≡◌ {A = Option Transfer} None (Some transfer) → ⊥
         none_some transfer f = cc

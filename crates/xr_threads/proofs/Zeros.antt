@@ -32,6 +32,7 @@ use Rattle.xr_threads.proofs.Arriving.{Since, any_part, arrives, at_runs, core_k
 use Rattle.xr_threads.proofs.Bases.{bases_worked}
 use Rattle.xr_threads.proofs.Evaluations.{item_acts, runs_with, with_items}
 use Rattle.xr_threads.proofs.Layouts.{ports_last, runs_at, runs_kept, unseen, variable_relied}
+use Rattle.xr_threads.proofs.Sizes.{words_sized}
 use Rattle.xr_threads.proofs.ThreadViews.{leads_as, leads_more}
 use Rattle.xr_threads.proofs.Stands.{items_stand}
 use Rattle.xr_threads.proofs.Watching.{here_at, items_unwatched}
@@ -223,7 +224,7 @@ module _ (g : Setting) (r : Runner) (v : ℕ) (laid : IsLaidOut g r) (is : IsCha
               others = λ u ne not_held. get_set_other x.core.threads r.thread u new ne;
               as_many = length-set x.core.threads r.thread new;
               words = λ n not_mine. get_set_other x.core.words (address_at base k / 4) n 0 (λ e. safe (k + 1) is_k n not_mine k (omega arith) e);
-              size = length-set x.core.words (address_at base k / 4) 0;
+              sizes = words_sized x.core left (length-set x.core.words (address_at base k / 4) 0) refl refl;
               resources = others_same _ _ _ _ refl refl refl;
             };
             roots = refl;

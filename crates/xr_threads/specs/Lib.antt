@@ -3,6 +3,7 @@ pub mod Parents
 pub mod Items
 pub mod Runners
 pub mod Fits
+pub mod Sizes
 pub mod ThreadViews
 pub mod Turns
 pub mod Roles

@@ -25,6 +25,7 @@ use Rattle.xr_match.specs.Systems.{SomeIs}
 use Rattle.xr_threads.specs.Parents.{Parent}
 use Rattle.xr_threads.specs.Roles.{AreRoles, AreUsedSo, HandFits, HasReserves, IsParent, ParentsWait, Role, Roles, got_by, own_branches, unused, used_by}
 use Rattle.xr_threads.specs.Runners.{Setting, Runner, IsPort, anyone, footprint_of, places}
+use Rattle.xr_threads.specs.Sizes.{sizes_in, sizes_of}
 use Rattle.xr_threads.specs.ThreadViews.{ThreadView}
 use Rattle.xr_threads.specs.Plain.{ArePlain}
 use Rattle.xr_threads.specs.Transfers.{StopsIn, Transfer, steps_left}
@@ -190,7 +191,7 @@ pub record Standing
   pub threads : (c t : ℕ) (a : CoreState) → slice_get w.machine.cores c ≡ Some a →
       Stands g (may_rest c t) a x.state (w.lives c t) x.actions (who c t)
   pub loose : (c : ℕ) (a : CoreState) → slice_get w.machine.cores c ≡ Some a → 1 ≤ threads_on g.program c → AreLoose g who c a x.state
-  pub sizes : (c : ℕ) (a : CoreState) → slice_get w.machine.cores c ≡ Some a → length a.words ≡ (parts_in g.image.cores c).words
+  pub sizes : (c : ℕ) (a : CoreState) → slice_get w.machine.cores c ≡ Some a → sizes_of a ≡ sizes_in (parts_in g.image.cores c)
   pub wired : AreWired g who w.machine x.state
   pub alone : (c t : ℕ) (r : Runner) (hand : Option Hand) (transfer : Transfer) → who c t ≡ used_by r hand → r.transfer ≡ Some transfer →
       HasAlone x.state.branches transfer.channel transfer.side r.branch

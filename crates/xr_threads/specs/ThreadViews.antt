@@ -12,6 +12,7 @@ use Rattle.xc_meaning.specs.States.Worlds.{World}
 use Rattle.xl_par.specs.Hands.{Hand, HasSpare, IsAmong, with_sync, with_thread_got}
 use Rattle.xr_threads.specs.Parents.{branches_of, syncs_of}
 use Rattle.xr_threads.specs.Runners.{IsMine, Setting, Runner, MayChange, home, relied}
+use Rattle.xr_threads.specs.Sizes.{sizes_of}
 use Rattle.xl_expr.specs.ResourceParts.{OtherPartsStay, OwnPartsStay}
 
 -- a runner's core and the program's state at one moment, and what the runner has got for a `par` that it opens, or has still to give back
@@ -71,7 +72,7 @@ module _ (g : Setting) (r : Runner) where
     pub others : (u : ℕ) → u ≢ r.thread → (IsAmong (held_in z.hand) u → ⊥) → slice_get z.core.threads u ≡ slice_get y.core.threads u
     pub as_many : length z.core.threads ≡ length y.core.threads
     pub words : (w : ℕ) → (MayChange g r w → ⊥) → slice_get z.core.words w ≡ slice_get y.core.words w
-    pub size : length z.core.words ≡ length y.core.words
+    pub sizes : sizes_of z.core ≡ sizes_of y.core
     pub resources : OtherPartsStay (IsMine g r) r.thread y.core z.core
 
   -- the other threads are what they were, and tied as before
