@@ -29,7 +29,7 @@ use Rattle.xr_threads.specs.Transfers.{StopsIn, all_but_first}
 use Rattle.xr_threads.specs.Turns.{Errs, InTransfer, IsBehind, IsNext, Runs, cost, is_watching}
 use Rattle.xr_threads.specs.Wired.{AreSidesOn, IsLine, boxes_in}
 use Rattle.xr_threads.proofs.ChannelBoxes.{line_boxed, line_parcels}
-use Rattle.xr_threads.proofs.ChannelEnds.{acts_there, end, end_is, is_near, left_local}
+use Rattle.xr_threads.proofs.ChannelEnds.{acts_there, end, end_is, left_local, near_end}
 use Rattle.xr_threads.proofs.ChannelWorlds.{answered, answered_boxes, awaiting_errs, takes_answer}
 use Rattle.xr_threads.proofs.EndSteps as step
 use Rattle.xr_threads.proofs.EndSteps.{gone_on}
@@ -51,7 +51,7 @@ use Rattle.xr_wires.specs.Balance.{Local}
 use Rattle.xr_wires.specs.Phases.{awaits_ack, between, offers, spot}
 use Rattle.xr_wires.proofs.Frames.{boxed, length_box, parcels}
 use Rattle.xr_wires.proofs.Near as near
-use Rattle.xr_wires.proofs.Near.{NearCheck, IsNear, Next, checks_makes, checks_pauses, checks_traps}
+use Rattle.xr_wires.proofs.Near.{NearCheck, NearEnd, Next, checks_makes, checks_pauses, checks_traps}
 use Rattle.xr_wires.proofs.Seen.{is_taken}
 use Rattle.xr_wires.proofs.Updates.{moved_to}
 
@@ -82,8 +82,8 @@ module _ {moment : Moment none_rests} {thread_at : ThreadAt moment None} (branch
   abbrev own_end : ChanEnd
   own_end = end thread_at channel side line at there
 
-  near_it : IsNear g.image.chans w.machine.cores line (pair_of g.program channel) side (home g r) a own_end
-  near_it = is_near thread_at channel side line at there
+  abbrev its_end : NearEnd
+  its_end = near_end thread_at channel side line at there
 
   abbrev thread : Thread
   thread = running r.tie h.pc h.regs
@@ -160,7 +160,7 @@ module _ {moment : Moment none_rests} {thread_at : ThreadAt moment None} (branch
           )))
 
       made_so : slot (home g r) a r.thread ≡ Made (step.left g r a h.pc h.regs h.regs h.here es) None [] →
-          Next g.image.chans is.lines.wired w.machine.cores boxes st.wired.ghosts st.wired.local line (pair_of g.program channel) side (home g r) a own_end near_it r.thread thread (step.left g r a h.pc h.regs h.regs h.here es) (boxed boxes line side ps) (spot between false) → Goal
+          Next its_end r.thread thread (step.left g r a h.pc h.regs h.regs h.here es) (boxed boxes line side ps) (spot between false) → Goal
       made_so is_made made =
           let left = step.left g r a h.pc h.regs h.regs h.here es in
           let cores = slice_set w.machine.cores c left in
@@ -190,17 +190,17 @@ module _ {moment : Moment none_rests} {thread_at : ThreadAt moment None} (branch
   }
 
   abbrev Row : Type 0
-  Row = NearCheck g.image.chans is.lines.wired w.machine.cores boxes st.wired.ghosts st.wired.local line (pair_of g.program channel) side (home g r) a own_end near_it r.thread thread 3 taken is_taken (λ ps. boxed boxes line side ps) (spot between false)
+  Row = NearCheck its_end r.thread thread 3 taken is_taken (λ ps. boxed boxes line side ps) (spot between false)
 
-  by_row : slot (home g r) a r.thread ≡ near.check_did g.image.chans is.lines.wired w.machine.cores boxes st.wired.ghosts st.wired.local line (pair_of g.program channel) side (home g r) a own_end near_it r.thread thread 3 → Row → Goal
+  by_row : slot (home g r) a r.thread ≡ near.check_did its_end r.thread thread 3 → Row → Goal
   by_row e (checks_pauses did none) = pauses (e ∙ did)
   by_row e (checks_makes ps did found made) =
-      made_so ps found (near.taken_gone g.image.chans is.lines.wired w.machine.cores boxes st.wired.ghosts st.wired.local line (pair_of g.program channel) side (home g r) a own_end near_it r.thread thread 1).ends (e ∙ did) made
+      made_so ps found (near.taken_gone its_end r.thread thread 1).ends (e ∙ did) made
   by_row e (checks_traps p ps did found wrong) =
       errs_followed branch_at (subst StopsIn (sym its) tt) (errs p ps found wrong (e ∙ did))
 
   pub answer_followed : Goal
   answer_followed =
       by_row ((acts_there thread_at channel side line at there r.tie h.pos (takes 3) h.pc h.regs h.steps.0).by a own_end h.here (end_is thread_at channel side line at there))
-      (near.chkct_ack g.image.chans is.lines.wired w.machine.cores boxes st.wired.ghosts st.wired.local line (pair_of g.program channel) side (home g r) a own_end near_it r.thread thread (offers v) false
+      (near.chkct_ack its_end r.thread thread (offers v) false
       (spot_is g none_rests who w x st c t r None runs_r channel side (awaits_ack (offers v)) its))

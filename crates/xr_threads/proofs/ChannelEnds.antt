@@ -24,7 +24,7 @@ use Rattle.xr_wires.specs.Balance.{Local}
 use Rattle.xr_wires.specs.Phases.{Spot}
 use Rattle.xr_wires.specs.Wires.{ends_in, place}
 use Rattle.xr_wires.proofs.Credits.{end_there}
-use Rattle.xr_wires.proofs.Near.{IsNear}
+use Rattle.xr_wires.proofs.Near.{IsNear, NearEnd}
 use Rattle.xr_wires.proofs.Updates.{moved_to}
 use Rattle.xr_threads.proofs.Moments.{Moment, ThreadAt}
 
@@ -75,6 +75,24 @@ module _ {moment : Moment none_rests} {hand : Option Hand} (thread_at : ThreadAt
     same_pairs = refl;
     at_core = at_place;
     at_end = end_is;
+  }
+
+  -- all that its rows are told of
+  abbrev pub near_end : NearEnd
+  near_end = record {
+    pairs = g.image.chans;
+    wired = is.lines.wired;
+    cores = w.machine.cores;
+    boxes = boxes;
+    ghosts = st.wired.ghosts;
+    local = st.wired.local;
+    line = line;
+    pair = pair;
+    side = side;
+    home = home g r;
+    core = a;
+    end = end;
+    is_near = is_near;
   }
 
   -- a step of the thread's on this end is one on the end of the channel's side

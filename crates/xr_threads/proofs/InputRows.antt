@@ -40,7 +40,7 @@ use Rattle.xr_threads.specs.Transfers.{AwaitsNothing, StopsIn, Transfer}
 use Rattle.xr_threads.specs.Turns.{Errs, Has, InTransfer, IsNext, Runs, TakesIn, cost, is_watching}
 use Rattle.xr_threads.specs.Wired.{AreSidesOn, HasAlone, IsLine, boxes_in}
 use Rattle.xr_threads.proofs.ChannelBoxes.{line_boxed, line_parcels}
-use Rattle.xr_threads.proofs.ChannelEnds.{acts_there, end, end_is, is_near, left_local}
+use Rattle.xr_threads.proofs.ChannelEnds.{acts_there, end, end_is, left_local, near_end}
 use Rattle.xr_threads.proofs.ChannelWorlds.{input_errs, received, received_boxes, takes_offer}
 use Rattle.xr_threads.proofs.EndSteps as step
 use Rattle.xr_threads.proofs.EndSteps.{gone_on}
@@ -59,7 +59,7 @@ use Rattle.xr_wires.specs.Balance.{Local}
 use Rattle.xr_wires.specs.Phases.{checks_end, spot}
 use Rattle.xr_wires.proofs.Frames.{boxed, length_box, parcels}
 use Rattle.xr_wires.proofs.Near as near
-use Rattle.xr_wires.proofs.Near.{IsNear, Next, NearInput, inputs_makes, inputs_pauses, inputs_traps}
+use Rattle.xr_wires.proofs.Near.{NearEnd, Next, NearInput, inputs_makes, inputs_pauses, inputs_traps}
 use Rattle.xr_wires.proofs.Seen.{is_offer}
 use Rattle.xr_wires.proofs.Updates.{moved_to}
 
@@ -131,8 +131,8 @@ module _ {moment : Moment none_rests} {thread_at : ThreadAt moment None} (branch
   abbrev own_end : ChanEnd
   own_end = end thread_at ch side line at there
 
-  near_it : IsNear g.image.chans w.machine.cores line (pair_of g.program ch) side (home g r) a own_end
-  near_it = is_near thread_at ch side line at there
+  abbrev its_end : NearEnd
+  its_end = near_end thread_at ch side line at there
 
   abbrev thread : Thread
   thread = running r.tie h.pc h.regs
@@ -227,7 +227,7 @@ module _ {moment : Moment none_rests} {thread_at : ThreadAt moment None} (branch
       )
 
       made_so : slot (home g r) a r.thread ≡ Made left (Some (Com r.core v)) [] →
-          Next g.image.chans is.lines.wired w.machine.cores boxes st.wired.ghosts st.wired.local line (pair_of g.program ch) side (home g r) a own_end near_it r.thread thread left (boxed (boxed boxes line side ps) line (other_side side) (parcels boxes line (other_side side) ++ taken ∷ [])) (spot checks_end false) → Goal
+          Next its_end r.thread thread left (boxed (boxed boxes line side ps) line (other_side side) (parcels boxes line (other_side side) ++ taken ∷ [])) (spot checks_end false) → Goal
       made_so is_made made =
           let local = left_local thread_at ch side line at there left _ (spot checks_end false) made.local in
           followed none_rests (λ d u ne. refl) left (Some (Com r.core v)) (ap (stepped (home g r) w.machine r.core r.thread a) is_made)
@@ -257,16 +257,16 @@ module _ {moment : Moment none_rests} {thread_at : ThreadAt moment None} (branch
   }
 
   abbrev Row : Type 0
-  Row = NearInput g.image.chans is.lines.wired w.machine.cores boxes st.wired.ghosts st.wired.local line (pair_of g.program ch) side (home g r) a own_end near_it r.thread thread R0 offer is_offer (λ ps. boxed (boxed boxes line side ps) line (other_side side) (parcels boxes line (other_side side) ++ taken ∷ [])) (spot checks_end false)
+  Row = NearInput its_end r.thread thread R0 offer is_offer (λ ps. boxed (boxed boxes line side ps) line (other_side side) (parcels boxes line (other_side side) ++ taken ∷ [])) (spot checks_end false)
 
-  by_row : slot (home g r) a r.thread ≡ near.in_did g.image.chans is.lines.wired w.machine.cores boxes st.wired.ghosts st.wired.local line (pair_of g.program ch) side (home g r) a own_end near_it r.thread thread R0 → Row → Goal
+  by_row : slot (home g r) a r.thread ≡ near.in_did its_end r.thread thread R0 → Row → Goal
   by_row e (inputs_pauses did waits less_there) = pauses (e ∙ did)
   by_row e (inputs_makes v ps did found made) =
-      made_so v ps found (near.taken_gone g.image.chans is.lines.wired w.machine.cores boxes st.wired.ghosts st.wired.local line (pair_of g.program ch) side (home g r) a own_end near_it r.thread thread 4).ends (e ∙ did) made
+      made_so v ps found (near.taken_gone its_end r.thread thread 4).ends (e ∙ did) made
   by_row e (inputs_traps p ps did found wrong) = errs_followed branch_at (subst StopsIn (sym none) tt) (errs p ps found wrong (e ∙ did))
 
   pub input_followed : Goal
   input_followed =
       by_row ((acts_there thread_at ch side line at there r.tie h.input.pos (takes_word R0) h.pc h.regs h.steps.0).by a own_end h.here (end_is thread_at ch side line at there))
-      (near.in_plain g.image.chans is.lines.wired w.machine.cores boxes st.wired.ghosts st.wired.local line (pair_of g.program ch) side (home g r) a own_end near_it r.thread thread R0
+      (near.in_plain its_end r.thread thread R0
       (begin.spot_there moment c t r None runs_r none branch known on ch side is_channel uses stands))

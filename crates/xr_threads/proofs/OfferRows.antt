@@ -33,7 +33,7 @@ use Rattle.xr_threads.specs.Transfers.{Transfer}
 use Rattle.xr_threads.specs.Turns.{Has, InTransfer, IsBehind, IsNext, Offers, Runs, cost}
 use Rattle.xr_threads.specs.Wired.{AreSidesOn, HasAlone, IsLine, boxes_in}
 use Rattle.xr_threads.proofs.ChannelBoxes.{line_boxed, line_parcels}
-use Rattle.xr_threads.proofs.ChannelEnds.{acts_there, end, end_is, is_near, left_local}
+use Rattle.xr_threads.proofs.ChannelEnds.{acts_there, end, end_is, left_local, near_end}
 use Rattle.xr_threads.proofs.ChannelWorlds.{offered, offers_word}
 use Rattle.xr_threads.proofs.EndSteps as step
 use Rattle.xr_threads.proofs.EndSteps.{gone_on}
@@ -49,7 +49,7 @@ use Rattle.xr_wires.specs.Balance.{Local}
 use Rattle.xr_wires.specs.Phases.{sends_end, spot}
 use Rattle.xr_wires.proofs.Frames.{boxed, length_box, parcels}
 use Rattle.xr_wires.proofs.Near as near
-use Rattle.xr_wires.proofs.Near.{IsNear, Next, NearSend, sends_makes, sends_pauses}
+use Rattle.xr_wires.proofs.Near.{NearEnd, Next, NearSend, sends_makes, sends_pauses}
 use Rattle.xr_wires.proofs.Updates.{moved_to}
 
 module _ {moment : Moment none_rests} {thread_at : ThreadAt moment None} (branch_at : BranchAt thread_at)
@@ -111,8 +111,8 @@ module _ {moment : Moment none_rests} {thread_at : ThreadAt moment None} (branch
   abbrev own_end : ChanEnd
   own_end = end thread_at ch side line at there
 
-  near_it : IsNear g.image.chans w.machine.cores line (pair_of g.program ch) side (home g r) a own_end
-  near_it = is_near thread_at ch side line at there
+  abbrev its_end : NearEnd
+  its_end = near_end thread_at ch side line at there
 
   abbrev thread : Thread
   thread = running r.tie h.pc h.regs
@@ -184,7 +184,7 @@ module _ {moment : Moment none_rests} {thread_at : ThreadAt moment None} (branch
     )
 
     made_so : slot (home g r) a r.thread ≡ Made left None [] →
-        Next g.image.chans is.lines.wired w.machine.cores boxes st.wired.ghosts st.wired.local line (pair_of g.program ch) side (home g r) a own_end near_it r.thread thread left (boxed boxes line (other_side side) (parcels boxes line (other_side side) ++ offer h.value ∷ [])) (spot (sends_end h.value) false) → Goal
+        Next its_end r.thread thread left (boxed boxes line (other_side side) (parcels boxes line (other_side side) ++ offer h.value ∷ [])) (spot (sends_end h.value) false) → Goal
     made_so is_made made =
         let local = left_local thread_at ch side line at there left _ (spot (sends_end h.value) false) made.local in
         followed none_rests (λ d u ne. refl) left None (ap (stepped (home g r) w.machine r.core r.thread a) is_made)
@@ -199,15 +199,15 @@ module _ {moment : Moment none_rests} {thread_at : ThreadAt moment None} (branch
         (alone_still branch_at on h.pc h.regs h.regs h.here es items None world acted next refl has refl (Some transfer) ch side is_channel.known alone)))
 
   abbrev Row : Type 0
-  Row = NearSend g.image.chans is.lines.wired w.machine.cores boxes st.wired.ghosts st.wired.local line (pair_of g.program ch) side (home g r) a own_end near_it r.thread thread (word_tokens h.value) (boxed boxes line (other_side side) (parcels boxes line (other_side side) ++ offer h.value ∷ [])) (spot (sends_end h.value) false)
+  Row = NearSend its_end r.thread thread (word_tokens h.value) (boxed boxes line (other_side side) (parcels boxes line (other_side side) ++ offer h.value ∷ [])) (spot (sends_end h.value) false)
 
-  by_row : slot (home g r) a r.thread ≡ near.sent_did g.image.chans is.lines.wired w.machine.cores boxes st.wired.ghosts st.wired.local line (pair_of g.program ch) side (home g r) a own_end near_it r.thread thread (word_tokens h.value) → Row → Goal
+  by_row : slot (home g r) a r.thread ≡ near.sent_did its_end r.thread thread (word_tokens h.value) → Row → Goal
   by_row e (sends_pauses did lacks) = pauses (e ∙ did)
   by_row e (sends_makes did made) =
-      made_so (near.sent_gone g.image.chans is.lines.wired w.machine.cores boxes st.wired.ghosts st.wired.local line (pair_of g.program ch) side (home g r) a own_end near_it r.thread thread (word_tokens h.value)).ends (e ∙ did) made
+      made_so (near.sent_gone its_end r.thread thread (word_tokens h.value)).ends (e ∙ did) made
 
   pub offer_followed : Goal
   offer_followed =
       by_row ((acts_there thread_at ch side line at there r.tie h.output.pos (sends (word_tokens h.value)) h.pc h.regs h.steps.0).by a own_end h.here (end_is thread_at ch side line at there))
-      (near.out_plain g.image.chans is.lines.wired w.machine.cores boxes st.wired.ghosts st.wired.local line (pair_of g.program ch) side (home g r) a own_end near_it r.thread thread h.value
+      (near.out_plain its_end r.thread thread h.value
       (begin.spot_there moment c t r None runs_r none branch known on ch side is_channel uses stands))

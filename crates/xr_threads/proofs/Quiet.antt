@@ -31,7 +31,7 @@ use Rattle.xr_threads.specs.Standing.{HasEnded, IsRun, Stand, Standing, StandsBy
 use Rattle.xr_threads.specs.Transfers.{Transfer}
 use Rattle.xr_threads.specs.Turns.{CannotAct, GivesBack, Joins, Turn, Turns, begins, errs, frees, goes_on, offers, pauses, takes_in, waits_tied}
 use Rattle.xr_threads.proofs.Deciding.{done_each, joins_together}
-use Rattle.xr_threads.proofs.Moments.{Moment, thread_of}
+use Rattle.xr_threads.proofs.Moments.{Moment, ThreadAt, thread_of}
 use Rattle.xr_threads.proofs.Moves.{core_of, kept_now, stands_at}
 use Rattle.xr_threads.proofs.QuietChannels.{inside_cannot, offers_goes, takes_in_cannot}
 use Rattle.xr_threads.proofs.QuietSlots as slots
@@ -105,7 +105,9 @@ module _ (moment : Moment none_rests)
     (quiet : IsQuietMachine moment.setting.image moment.setting.stimulus moment.watched.machine) where
   open moment use {setting as g, image as is, roles as who, watched as w, told as x, standing as st}
 
-  module _ (c t : ℕ) (r : Runner) (hand : Option Hand) (runs_r : who c t ≡ used_by r hand) (a : CoreState) (at_c : slice_get w.machine.cores c ≡ Some a) where
+  module _ {hand : Option Hand} (thread_at : ThreadAt moment hand) where
+    open thread_at use {core as c, thread as t, state as a, at_core as at_c, runner as r, runs as runs_r}
+
     abbrev now : ThreadView
     now = record { core = a; world = x.state; hand = hand }
 
@@ -124,8 +126,8 @@ module _ (moment : Moment none_rests)
     turn_cannot j none (frees h) = absurd (not_made h.left None h.made_is)
     turn_cannot j none (waits_tied h) = absurd (not_made h.left None h.made_is)
     turn_cannot j none (begins h) = absurd (not_made _ None h.goes)
-    turn_cannot j none (offers h) = absurd (offers_goes moment quiet c t a at_c r hand runs_r j none h)
-    turn_cannot j none (takes_in h) = takes_in_cannot moment quiet c t a at_c r hand runs_r j none h
+    turn_cannot j none (offers h) = absurd (offers_goes moment quiet thread_at j none h)
+    turn_cannot j none (takes_in h) = takes_in_cannot moment quiet thread_at j none h
 
     -- no step on the way to somewhere is left
     arrived : (Q : ThreadView → Type 0) (n : ℕ) → LeadsIn g r Q n now → Q now
@@ -148,7 +150,7 @@ module _ (moment : Moment none_rests)
         by None none (inl (n, j, few, on)) = turn_cannot j none (arrived (Turns g r j) n on now here)
         by None none (inr (inl (j, few, gives))) = absurd (not_resuming items j gives)
         by None none (inr (inr h)) = absurd h
-        by (Some transfer) its (j, few, h) = inside_cannot moment quiet c t a at_c r hand runs_r transfer its items j h
+        by (Some transfer) its (j, few, h) = inside_cannot moment quiet thread_at transfer its items j h
 
     -- one that has ended waits for others of its `par`
     joining_waits : (p : Parent) (ps : List Parent) (left : ℕ) → r.parents ≡ p ∷ ps → is_done (slice_get x.state.branches r.branch) ≡ true → HasEnded g r (p ∷ ps) left now → all_done x.state p.from p.count ≡ false
@@ -202,7 +204,7 @@ module _ (moment : Moment none_rests)
   run_still : (b : ℕ) → IsRun who b → IsStill g x.state b
   run_still b q =
       let e = core_of moment q.core q.thread q.runner q.hand q.runs in
-      runner_still q.core q.thread q.runner q.hand q.runs e.0 e.1 (slice_get x.state.branches q.runner.branch) refl
+      runner_still (thread_of moment q.core q.thread e.0 e.1 q.runner q.hand q.runs) (slice_get x.state.branches q.runner.branch) refl
       (stands_at moment q.core q.thread e.0 q.runner q.hand e.1 q.runs) b q.branch
 
   there_still : (b : ℕ) (branch : Branch) → slice_get x.state.branches b ≡ Some branch → (mode : Mode) → branch.mode ≡ mode → IsStill g x.state b

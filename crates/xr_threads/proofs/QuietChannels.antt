@@ -41,9 +41,9 @@ use Rattle.xr_threads.specs.Transfers.{GoesWith, IsAwaiting, Transfer, acts_left
 use Rattle.xr_threads.specs.Turns.{CannotAct, InTransfer, IsBehind, Offers, Runs, TakesIn, TakesSteps}
 use Rattle.xr_threads.specs.Wired.{AreSidesOn, IsLine, boxes_in}
 use Rattle.xr_threads.proofs.ChannelBoxes.{line_parcels}
-use Rattle.xr_threads.proofs.ChannelEnds.{end, is_near}
+use Rattle.xr_threads.proofs.ChannelEnds.{end, near_end}
 use Rattle.xr_threads.proofs.Evaluations.{item_acts}
-use Rattle.xr_threads.proofs.Moments.{Moment, thread_of}
+use Rattle.xr_threads.proofs.Moments.{Moment, ThreadAt}
 use Rattle.xr_threads.proofs.Moves.{works_at}
 use Rattle.xr_threads.proofs.QuietSides.{IsStuck, awaiting_sent, checks_wait, each_stuck, sends_wait, word_waits}
 use Rattle.xr_threads.proofs.TransferBegins as begins
@@ -52,7 +52,7 @@ use Rattle.xr_threads.proofs.Wiring.{wired_inside}
 use Rattle.xr_wires.specs.Phases.{Phase, awaits_ack, between, checks_end, closes, offers, opens, sends_ack, sends_end, spot, streams, was_closed}
 use Rattle.xr_wires.specs.Wires.{Ghosts}
 use Rattle.xr_wires.proofs.Frames.{parcels}
-use Rattle.xr_wires.proofs.Near.{IsNear}
+use Rattle.xr_wires.proofs.Near.{NearEnd}
 use Rattle.xr_wires.proofs.NearPauses.{Goes, chkct_ack_paused, chkct_end_paused, goes, in_paused}
 use Rattle.xr_wires.proofs.NearPlain.{has_credit, has_credits, nothing_came, nothing_owed}
 use Rattle.xr_wires.proofs.PlainSides.{IsPlain}
@@ -119,7 +119,9 @@ module _ (moment : Moment none_rests)
   ghosts = st.wired.ghosts
 
   -- A branch that runs, and its thread.
-  module _ (c t : ℕ) (a : CoreState) (at_c : slice_get w.machine.cores c ≡ Some a) (r : Runner) (hand : Option Hand) (runs_r : who c t ≡ used_by r hand) where
+  module _ {hand : Option Hand} (thread_at : ThreadAt moment hand) where
+    open thread_at use {core as c, thread as t, state as a, at_core as at_c, runner as r, runs as runs_r}
+
     abbrev view : ThreadView
     view = record { core = a; world = x.state; hand = hand }
 
@@ -139,22 +141,22 @@ module _ (moment : Moment none_rests)
       its_pair = pair_of g.program channel
 
       abbrev its_end : ChanEnd
-      its_end = end (thread_of moment c t a at_c r hand runs_r) channel side line is_line on_core
+      its_end = end thread_at channel side line is_line on_core
 
-      its_near : IsNear g.image.chans w.machine.cores line its_pair side (home g r) a its_end
-      its_near = is_near (thread_of moment c t a at_c r hand runs_r) channel side line is_line on_core
+      abbrev its_near : NearEnd
+      its_near = near_end thread_at channel side line is_line on_core
 
       -- a step that sends a token goes on
       one_sent : (f : Phase) → IsPlain f → ghosts.spots line side ≡ spot f false → nat_le 1 its_end.credits ≡ false → ⊥
       one_sent f plain spot_is few =
           let s = each_stuck moment quiet line channel (other_side side) is_line in
-          has_credit g.image.chans is.lines.wired w.machine.cores boxes ghosts st.wired.local line its_pair side (home g r) a its_end its_near f s.phase spot_is s.spot_is plain s.plain few
+          has_credit its_near f s.phase spot_is s.spot_is plain s.plain few
 
       -- and so does one that sends a word, between pieces
       four_sent : ghosts.spots line side ≡ spot between false → nat_le 4 its_end.credits ≡ false → ⊥
       four_sent spot_is few =
           let s = each_stuck moment quiet line channel (other_side side) is_line in
-          has_credits g.image.chans is.lines.wired w.machine.cores boxes ghosts st.wired.local line its_pair side (home g r) a its_end its_near between s.phase spot_is s.spot_is tt s.plain refl few
+          has_credits its_near between s.phase spot_is s.spot_is tt s.plain refl few
 
       -- a check of an END goes on
       end_come : ghosts.spots line side ≡ spot checks_end false → its_end.tokens ≡ [] → ⊥
@@ -162,9 +164,9 @@ module _ (moment : Moment none_rests)
         where
           by : (s : IsStuck moment quiet line channel (other_side side)) → IsAwaiting s.phase ⊎ (Goes w.machine.cores boxes ghosts line its_pair (other_side side) → ⊥) → ⊥
           by s (inl h) =
-              let owed = nothing_owed g.image.chans is.lines.wired w.machine.cores boxes ghosts st.wired.local line its_pair side (home g r) a its_end its_near checks_end s.phase spot_is s.spot_is (awaiting_sent s.phase h) none refl in
+              let owed = nothing_owed its_near checks_end s.phase spot_is s.spot_is (awaiting_sent s.phase h) none refl in
               cc
-          by s (inr stays) = stays (chkct_end_paused g.image.chans is.lines.wired w.machine.cores boxes ghosts st.wired.local line its_pair side (home g r) a its_end its_near false spot_is none)
+          by s (inr stays) = stays (chkct_end_paused its_near false spot_is none)
 
       -- where no answer comes, the inbox is empty
       no_answer : (v : ℕ) → ghosts.spots line side ≡ spot (awaits_ack (offers v)) false → its_end.tokens ≡ [] → parcels boxes line side ≡ []
@@ -172,15 +174,15 @@ module _ (moment : Moment none_rests)
         where
           by : (s : IsStuck moment quiet line channel (other_side side)) → IsAwaiting s.phase ⊎ (Goes w.machine.cores boxes ghosts line its_pair (other_side side) → ⊥) → parcels boxes line side ≡ []
           by s (inl h) =
-              nothing_came g.image.chans is.lines.wired w.machine.cores boxes ghosts st.wired.local line its_pair side (home g r) a its_end its_near (awaits_ack (offers v)) s.phase spot_is s.spot_is (awaiting_sent s.phase h) none refl refl
+              nothing_came its_near (awaits_ack (offers v)) s.phase spot_is s.spot_is (awaiting_sent s.phase h) none refl refl
           by s (inr stays) =
               ⊎_elim (λ e. e) (λ go. absurd (stays go))
-              (chkct_ack_paused g.image.chans is.lines.wired w.machine.cores boxes ghosts st.wired.local line its_pair side (home g r) a its_end its_near (offers v) false spot_is none)
+              (chkct_ack_paused its_near (offers v) false spot_is none)
 
       -- and where no word comes it is too
       no_word : ghosts.spots line side ≡ spot between false → take_word its_end.tokens ≡ NotYet → length its_end.tokens < 4 → parcels boxes line side ≡ []
       no_word spot_is slow few =
-          in_paused g.image.chans is.lines.wired w.machine.cores boxes ghosts st.wired.local line its_pair side (home g r) a its_end its_near false spot_is slow few
+          in_paused its_near false spot_is slow few
 
       -- so it is the program's
       its_inbox : parcels boxes line side ≡ [] → parcels x.state.inboxes channel side ≡ []
@@ -217,7 +219,7 @@ module _ (moment : Moment none_rests)
         let used = subst (PutsOutAt g r) h.on.is_channel h.fits.0.0.to in
         let at = begins_on none h.has.branch (does (kernel.output h.output) ∷ h.rest) h.has.runs channel side used (output_uses channel h.output h.rest h.on.is_channel) h.on.stands_in in
         four_sent channel side at.line at.is_line at.on_core at.spot_is
-        (sends_wait moment quiet c t a at_c r hand runs_r channel side at.line at.is_line at.on_core h.output.pos h.pc h.regs h.here (word_tokens h.value) h.steps.0)
+        (sends_wait moment quiet thread_at channel side at.line at.is_line at.on_core h.output.pos h.pc h.regs h.here (word_tokens h.value) h.steps.0)
 
     -- An input's IN waits for a word, and nothing is in the inbox.
     pub takes_in_cannot : (j : ℕ) → r.transfer ≡ None → TakesIn g r j view → CannotAct g r x.state
@@ -227,7 +229,7 @@ module _ (moment : Moment none_rests)
         let runs = h.has.runs in
         let used = subst (TakesInAt g r) h.on.is_channel h.fits.0.0.from in
         let at = begins_on none h.has.branch (does (kernel.input h.input) ∷ h.rest) runs channel side used (input_uses channel h.input h.rest h.on.is_channel) h.on.stands_in in
-        let slow = word_waits moment quiet c t a at_c r hand runs_r channel side at.line at.is_line at.on_core h.input.pos h.pc h.regs h.here R0 h.steps.0 in
+        let slow = word_waits moment quiet thread_at channel side at.line at.is_line at.on_core h.input.pos h.pc h.regs h.here R0 h.steps.0 in
         let nothing = its_inbox channel side at.line at.is_line at.on_core (no_word channel side at.line at.is_line at.on_core at.spot_is slow.0 slow.1) in
         input_cannot g r x.state h.has.branch (does (kernel.input h.input)) h.rest runs channel side (stands_on h.has.branch runs.known channel side h.on.stands_in) (st.plain.outside r.branch h.has.branch runs.known) nothing h.input refl h.on.is_channel
 
@@ -253,10 +255,10 @@ module _ (moment : Moment none_rests)
         sends_one : (f : Phase) → IsPlain f → ghosts.spots line side ≡ spot f false → (n : ℕ) → Acts (home g r) r.thread (end_place g r channel side) (running r.tie h.pc h.regs) h.pos (sends (control_token n ∷ [])) h.pc h.regs → ⊥
         sends_one f plain spot_is n acts =
             one_sent channel side line is_line at.2 f plain spot_is
-            (sends_wait moment quiet c t a at_c r hand runs_r channel side line is_line at.2 h.pos h.pc h.regs h.here (control_token n ∷ []) acts)
+            (sends_wait moment quiet thread_at channel side line is_line at.2 h.pos h.pc h.regs h.here (control_token n ∷ []) acts)
 
         nothing_there : (n : ℕ) → Acts (home g r) r.thread (end_place g r channel side) (running r.tie h.pc h.regs) h.pos (protocol.takes n) h.pc h.regs → (its_end channel side line is_line at.2).tokens ≡ []
-        nothing_there n acts = checks_wait moment quiet c t a at_c r hand runs_r channel side line is_line at.2 h.pos h.pc h.regs h.here n acts
+        nothing_there n acts = checks_wait moment quiet thread_at channel side line is_line at.2 h.pos h.pc h.regs h.here n acts
 
         awaits_cannot : (v : ℕ) → ghosts.spots line side ≡ spot (awaits_ack (offers v)) false → (its_end channel side line is_line at.2).tokens ≡ [] → (rest : List Item) → items ≡ awaits channel h.pos ∷ rest → CannotAct g r x.state
         awaits_cannot v spot_is none rest e =

@@ -30,15 +30,14 @@ use Rattle.xr_threads.specs.Standing.{Stand, Standing, StandsBy, StandsWith, non
 use Rattle.xr_threads.specs.Transfers.{GoesWith, IsAwaiting, StopsIn, Transfer, acts_left, items_behind}
 use Rattle.xr_threads.specs.Turns.{IsBehind, TakesSteps}
 use Rattle.xr_threads.specs.Wired.{AreSidesOn, IsLine, IsTransferring, Stance, at_rest, boxes_in, in_piece}
-use Rattle.xr_threads.proofs.ChannelEnds.{acts_there, end, end_is, is_near}
-use Rattle.xr_threads.proofs.Moments.{Moment, thread_of}
+use Rattle.xr_threads.proofs.ChannelEnds.{acts_there, end, end_is, near_end}
+use Rattle.xr_threads.proofs.Moments.{Moment, ThreadAt, thread_of}
 use Rattle.xr_threads.proofs.Moves.{core_of as the_core, stands_at}
 use Rattle.xr_threads.proofs.QuietSlots.{lacks_credits, lacks_tokens, lacks_word}
 use Rattle.xr_threads.proofs.Wiring.{wired_inside}
 use Rattle.xr_threads.proofs.Works.{some_is}
 use Rattle.xr_wires.specs.Phases.{Line, Phase, Spot, awaits_ack, between, checks_end, closes, offers, opens, sends_ack, sends_end, spot, streams, unsent, was_closed}
 use Rattle.xr_wires.specs.Wires.{Ghosts, place}
-use Rattle.xr_wires.proofs.Near.{IsNear}
 use Rattle.xr_wires.proofs.NearPauses.{Goes, MayGo, goes}
 use Rattle.xr_wires.proofs.Pauses.{Enabled, may_answer, may_check, may_check_end, may_close, may_end}
 use Rattle.xr_wires.proofs.PlainSides.{IsPlain}
@@ -96,11 +95,14 @@ module _ (moment : Moment none_rests)
   ghosts = st.wired.ghosts
 
   -- A thread is at a step on the end of a side of a channel: that waits.
-  module _ (c t : ℕ) (a : CoreState) (at_c : slice_get w.machine.cores c ≡ Some a) (r : Runner) (hand : Option Hand) (runs_r : who c t ≡ used_by r hand)
-      (channel : ℕ) (side : Side) (line : ℕ) (is_line : IsLine g.program line channel) (on_core : AreSidesOn g.program channel c)
-      (pos : Pos) (pc : ℕ) (regs : Regs) (here : slice_get a.threads r.thread ≡ Some (running r.tie pc regs)) where
+  module _ {hand : Option Hand} (thread_at : ThreadAt moment hand)
+      (channel : ℕ) (side : Side) (line : ℕ) (is_line : IsLine g.program line channel) (on_core : AreSidesOn g.program channel thread_at.core)
+      (pos : Pos) (pc : ℕ) (regs : Regs)
+      (here : slice_get thread_at.state.threads thread_at.runner.thread ≡ Some (running thread_at.runner.tie pc regs)) where
+    open thread_at use {core as c, thread as t, state as a, at_core as at_c, runner as r, runs as runs_r}
+
     abbrev own_end : ChanEnd
-    own_end = end (thread_of moment c t a at_c r hand runs_r) channel side line is_line on_core
+    own_end = end thread_at channel side line is_line on_core
 
     abbrev place_end : ℕ
     place_end = (place (pair_of g.program channel) side).end
@@ -110,11 +112,11 @@ module _ (moment : Moment none_rests)
 
     -- the end is there
     there : slice_get a.ends place_end ≡ Some own_end
-    there = end_is (thread_of moment c t a at_c r hand runs_r) channel side line is_line on_core
+    there = end_is thread_at channel side line is_line on_core
 
     -- and the step is one on it
     acts_so : (act : Act) → Acts (home g r) r.thread (end_place g r channel side) thread pos act pc regs → Acts (home g r) r.thread place_end thread pos act pc regs
-    acts_so act h = acts_there (thread_of moment c t a at_c r hand runs_r) channel side line is_line on_core r.tie pos act pc regs h
+    acts_so act h = acts_there thread_at channel side line is_line on_core r.tie pos act pc regs h
 
     -- one that sends lacks credits
     pub sends_wait : (ks : List Token) → Acts (home g r) r.thread (end_place g r channel side) thread pos (sends ks) pc regs → nat_le (length ks) own_end.credits ≡ false
@@ -134,12 +136,9 @@ module _ (moment : Moment none_rests)
     -- so no row of a piece that it is in is enabled
     none_enabled : (f : Phase) (items : List Item) (Q : ℕ → Regs → Type 0) → GoesWith f channel pos items → TakesSteps g r channel side pos (acts_left f) Q pc regs → ghosts.spots line side ≡ spot f false →
         Goes w.machine.cores boxes ghosts line (pair_of g.program channel) side → ⊥
-    none_enabled f items Q with_items steps spot_is go = by f with_items steps (goes g.image.chans is.lines.wired w.machine.cores boxes ghosts st.wired.local line (pair_of g.program channel) side (home g r) a own_end near_it f (ap (λ (s : Spot). s.phase) spot_is) go)
+    none_enabled f items Q with_items steps spot_is go = by f with_items steps (goes (near_end thread_at channel side line is_line on_core) f (ap (λ (s : Spot). s.phase) spot_is) go)
       where
-        near_it : IsNear g.image.chans w.machine.cores line (pair_of g.program channel) side (home g r) a own_end
-        near_it = is_near (thread_of moment c t a at_c r hand runs_r) channel side line is_line on_core
-
-        by : (f : Phase) → GoesWith f channel pos items → TakesSteps g r channel side pos (acts_left f) Q pc regs → MayGo g.image.chans is.lines.wired w.machine.cores boxes ghosts st.wired.local line (pair_of g.program channel) side (home g r) a own_end near_it f → ⊥
+        by : (f : Phase) → GoesWith f channel pos items → TakesSteps g r channel side pos (acts_left f) Q pc regs → MayGo (near_end thread_at channel side line is_line on_core) f → ⊥
         by between h steps may = h
         by (sends_end v) h steps may = let both : true ≡ false = sym may ∙ sends_wait (control_token 1 ∷ []) steps.0 in cc
         by (awaits_ack q) h steps may = let none = ap length (checks_wait 3 steps.0) in omega (arith, may, none)
@@ -175,7 +174,7 @@ module _ (moment : Moment none_rests)
       phase = transfer.phase;
       plain = plain_where_goes transfer.phase transfer.channel h.pos items h.goes_with;
       spot_is = spot_now;
-      stuck = inr (none_enabled d u a at_d r hand runs_r transfer.channel transfer.side line is_line on_core h.pos h.pc h.regs h.here transfer.phase items (IsBehind g r (items_behind transfer.phase items) j) h.goes_with h.steps spot_now);
+      stuck = inr (none_enabled (thread_of moment d u a at_d r hand runs_r) transfer.channel transfer.side line is_line on_core h.pos h.pc h.regs h.here transfer.phase items (IsBehind g r (items_behind transfer.phase items) j) h.goes_with h.steps spot_now);
     }
 
     -- one that has trapped awaited an answer

@@ -30,7 +30,7 @@ use Rattle.xr_threads.specs.Transfers.{GoesWith, Transfer, acts_left, all_but_fi
 use Rattle.xr_threads.specs.Turns.{Has, InTransfer, IsBehind, TakesSteps, cost}
 use Rattle.xr_threads.specs.Wired.{AreSidesOn, HasAlone, IsLine, boxes_in}
 use Rattle.xr_threads.proofs.Answers as answers
-use Rattle.xr_threads.proofs.ChannelEnds.{acts_there, end, end_is, is_near, left_local}
+use Rattle.xr_threads.proofs.ChannelEnds.{acts_there, end, end_is, left_local, near_end}
 use Rattle.xr_threads.proofs.EndSteps as step
 use Rattle.xr_threads.proofs.EndSteps.{gone_on}
 use Rattle.xr_threads.proofs.InTransfers.{IsFollowed, followed, goes_on_so, in_phase, line_is, moves_on, moves_out, on_core, own_line, pauses, spot_is}
@@ -43,7 +43,7 @@ use Rattle.xr_threads.proofs.Watching.{here_at}
 use Rattle.xr_threads.proofs.WiredMoves.{Moves, wired_moves}
 use Rattle.xr_wires.specs.Phases.{Phase, awaits_ack, between, checks_end, offers, sends_ack, sends_end, spot}
 use Rattle.xr_wires.proofs.Near as near
-use Rattle.xr_wires.proofs.Near.{NearEndCheck, IsNear, Next, NearSend, end_makes, end_pauses, sends_makes, sends_pauses}
+use Rattle.xr_wires.proofs.Near.{NearEnd, NearEndCheck, Next, NearSend, end_makes, end_pauses, sends_makes, sends_pauses}
 
 -- nobody is at rest on another core
 pub alone_elsewhere : (c : ℕ) (b : Bool) (d : ℕ) → d ≢ c → (nat_eq d c && b) ≡ false
@@ -93,8 +93,8 @@ module _ {moment : Moment none_rests} {thread_at : ThreadAt moment None} (branch
     abbrev own_end : ChanEnd
     own_end = end thread_at channel side line at there
 
-    abbrev near_it : IsNear g.image.chans w.machine.cores line (pair_of g.program channel) side (home g r) a own_end
-    near_it = is_near thread_at channel side line at there
+    abbrev its_end : NearEnd
+    its_end = near_end thread_at channel side line at there
 
     abbrev thread : Thread
     thread = running r.tie pc regs
@@ -104,7 +104,7 @@ module _ {moment : Moment none_rests} {thread_at : ThreadAt moment None} (branch
         (rests : (core thread : ℕ) → Bool) (elsewhere : (d u : ℕ) → d ≢ c → rests d u ≡ false) (fewer : ℕ) (few : suc fewer ≤ stand.left)
         (by : (es : List ChanEnd) → StandsWith g (record r { transfer = next }) (rests c t) next branch.items fewer (record { core = step.left g r a pc regs regs here es; world = x.state; hand = None })) where
       made_so : (es : List ChanEnd) → slot (home g r) a r.thread ≡ Made (step.left g r a pc regs regs here es) None [] →
-          Next g.image.chans is.lines.wired w.machine.cores boxes st.wired.ghosts st.wired.local line (pair_of g.program channel) side (home g r) a own_end near_it r.thread thread (step.left g r a pc regs regs here es) boxes (spot later false) → Goal
+          Next its_end r.thread thread (step.left g r a pc regs regs here es) boxes (spot later false) → Goal
       made_so es is_made made =
           let left = step.left g r a pc regs regs here es in
           followed rests elsewhere left None (ap (stepped (home g r) w.machine r.core r.thread a) is_made)
@@ -115,27 +115,27 @@ module _ {moment : Moment none_rests} {thread_at : ThreadAt moment None} (branch
 
       -- tokens go out
       sends_so : (pos : Pos) (ks : List Token) → Acts (home g r) r.thread (end_place g r channel side) thread pos (sends ks) pc regs →
-          NearSend g.image.chans is.lines.wired w.machine.cores boxes st.wired.ghosts st.wired.local line (pair_of g.program channel) side (home g r) a own_end near_it r.thread thread ks boxes (spot later false) → Goal
+          NearSend its_end r.thread thread ks boxes (spot later false) → Goal
       sends_so pos ks acts result =
           by_row ((acts_there thread_at channel side line at there r.tie pos (sends ks) pc regs acts).by a own_end here (end_is thread_at channel side line at there)) result
         where
-          by_row : slot (home g r) a r.thread ≡ near.sent_did g.image.chans is.lines.wired w.machine.cores boxes st.wired.ghosts st.wired.local line (pair_of g.program channel) side (home g r) a own_end near_it r.thread thread ks →
-              NearSend g.image.chans is.lines.wired w.machine.cores boxes st.wired.ghosts st.wired.local line (pair_of g.program channel) side (home g r) a own_end near_it r.thread thread ks boxes (spot later false) → Goal
+          by_row : slot (home g r) a r.thread ≡ near.sent_did its_end r.thread thread ks →
+              NearSend its_end r.thread thread ks boxes (spot later false) → Goal
           by_row e (sends_pauses did none) = pauses (e ∙ did)
           by_row e (sends_makes did made) =
-              made_so (near.sent_gone g.image.chans is.lines.wired w.machine.cores boxes st.wired.ghosts st.wired.local line (pair_of g.program channel) side (home g r) a own_end near_it r.thread thread ks).ends (e ∙ did) made
+              made_so (near.sent_gone its_end r.thread thread ks).ends (e ∙ did) made
 
       -- an END is taken
       checks_so : (pos : Pos) → Acts (home g r) r.thread (end_place g r channel side) thread pos (takes 1) pc regs →
-          NearEndCheck g.image.chans is.lines.wired w.machine.cores boxes st.wired.ghosts st.wired.local line (pair_of g.program channel) side (home g r) a own_end near_it r.thread thread (spot later false) → Goal
+          NearEndCheck its_end r.thread thread (spot later false) → Goal
       checks_so pos acts result =
           by_row ((acts_there thread_at channel side line at there r.tie pos (takes 1) pc regs acts).by a own_end here (end_is thread_at channel side line at there)) result
         where
-          by_row : slot (home g r) a r.thread ≡ near.check_did g.image.chans is.lines.wired w.machine.cores boxes st.wired.ghosts st.wired.local line (pair_of g.program channel) side (home g r) a own_end near_it r.thread thread 1 →
-              NearEndCheck g.image.chans is.lines.wired w.machine.cores boxes st.wired.ghosts st.wired.local line (pair_of g.program channel) side (home g r) a own_end near_it r.thread thread (spot later false) → Goal
+          by_row : slot (home g r) a r.thread ≡ near.check_did its_end r.thread thread 1 →
+              NearEndCheck its_end r.thread thread (spot later false) → Goal
           by_row e (end_pauses did none) = pauses (e ∙ did)
           by_row e (end_makes did made) =
-              made_so (near.taken_gone g.image.chans is.lines.wired w.machine.cores boxes st.wired.ghosts st.wired.local line (pair_of g.program channel) side (home g r) a own_end near_it r.thread thread 1).ends (e ∙ did) made
+              made_so (near.taken_gone its_end r.thread thread 1).ends (e ∙ did) made
 
     -- it goes on in its transfer
     still_alone : (later : Phase) (transfer : Transfer) → Some (in_phase channel side later) ≡ Some transfer → HasAlone x.state.branches transfer.channel transfer.side r.branch
@@ -173,7 +173,7 @@ module _ {moment : Moment none_rests} {thread_at : ThreadAt moment None} (branch
       (still_alone phase its h.pc h.regs h.here later) none_rests (λ d u ne. refl) (1 + j + cost g r) (omega (arith, few))
       (later_steps phase later j (1 + j + cost g r) (omega arith) h h.goes_with (end_sent g r channel side h.pos (IsBehind g r (all_but_first branch.items) j) h.pc h.regs v h.steps))
       h.pos (control_token 1 ∷ []) h.steps.0
-      (near.outct_end g.image.chans is.lines.wired w.machine.cores (boxes phase its h.pc h.regs h.here) st.wired.ghosts st.wired.local (line phase its h.pc h.regs h.here) (pair_of g.program channel) side (home g r) a (own_end phase its h.pc h.regs h.here) (near_it phase its h.pc h.regs h.here) r.thread (running r.tie h.pc h.regs)
+      (near.outct_end (its_end phase its h.pc h.regs h.here) r.thread (running r.tie h.pc h.regs)
       v false (spot_now phase its h.pc h.regs h.here))
 
   -- CHKCT END of an input
@@ -186,7 +186,7 @@ module _ {moment : Moment none_rests} {thread_at : ThreadAt moment None} (branch
       (still_alone phase its h.pc h.regs h.here later) none_rests (λ d u ne. refl) (1 + j + cost g r) (omega (arith, few))
       (later_steps phase later j (1 + j + cost g r) (omega arith) h h.goes_with (end_taken g r channel side h.pos (IsBehind g r branch.items j) h.pc h.regs h.steps))
       h.pos h.steps.0
-      (near.chkct_end g.image.chans is.lines.wired w.machine.cores (boxes phase its h.pc h.regs h.here) st.wired.ghosts st.wired.local (line phase its h.pc h.regs h.here) (pair_of g.program channel) side (home g r) a (own_end phase its h.pc h.regs h.here) (near_it phase its h.pc h.regs h.here) r.thread (running r.tie h.pc h.regs)
+      (near.chkct_end (its_end phase its h.pc h.regs h.here) r.thread (running r.tie h.pc h.regs)
       false (spot_now phase its h.pc h.regs h.here))
 
   -- the thread has left its transfer, and is at the code of what is left, or on its way to the store of the word that has come in
@@ -235,5 +235,5 @@ module _ {moment : Moment none_rests} {thread_at : ThreadAt moment None} (branch
       (λ transfer e. absurd (none-some transfer e)) (rests_alone c t) (λ d u ne. alone_elsewhere c (nat_eq u t) d ne) (j + cost g r) (omega (arith, few))
       (left_it j h)
       h.pos (control_token 3 ∷ []) h.steps.0
-      (near.outct_ack g.image.chans is.lines.wired w.machine.cores (boxes phase its h.pc h.regs h.here) st.wired.ghosts st.wired.local (line phase its h.pc h.regs h.here) (pair_of g.program channel) side (home g r) a (own_end phase its h.pc h.regs h.here) (near_it phase its h.pc h.regs h.here) r.thread (running r.tie h.pc h.regs)
+      (near.outct_ack (its_end phase its h.pc h.regs h.here) r.thread (running r.tie h.pc h.regs)
       false (spot_now phase its h.pc h.regs h.here))

@@ -62,7 +62,25 @@ no_square = record { rows = λ a lt. (replicate_4, row a lt, columns) }
     columns (suc (suc (suc zero))) lt = ([], refl)
     columns (suc (suc (suc (suc b)))) lt = absurd (omega (arith, lt))
 
-module _ (pairs : List Pair) (wired : IsWired pairs) (cores : List CoreState) (boxes : List Inboxes) (g : Ghosts) (now : Local pairs cores boxes g) (k : ℕ) (p : Pair) (side : Side) (home : Home) (core : CoreState) (end : ChanEnd) (at : IsNear pairs cores k p side home core end) (t : ℕ) (thread : Thread) where
+-- Such an end, and what stands between the sides of all channels: what each of its rows is told of.
+pub record NearEnd : Type 0 where
+  pub pairs : List Pair
+  pub wired : IsWired pairs
+  pub cores : List CoreState
+  pub boxes : List Inboxes
+  pub ghosts : Ghosts
+  pub local : Local pairs cores boxes ghosts
+  pub line : ℕ
+  pub pair : Pair
+  pub side : Side
+  pub home : Home
+  pub core : CoreState
+  pub end : ChanEnd
+  pub is_near : IsNear pairs cores line pair side home core end
+
+module _ (near_end : NearEnd) (t : ℕ) (thread : Thread) where
+  open near_end use {pairs, wired, cores, boxes, ghosts as g, local as now, line as k, pair as p, side, home, core, end, is_near as at}
+
   -- the core and the end, the other side and the peer
   abbrev pub c : ℕ
   c = (place p side).core

@@ -19,13 +19,15 @@ use Rattle.xr_wires.proofs.Updates.{at_spot}
 use Rattle.xr_wires.proofs.FreshRows.{none_asked}
 use Rattle.xr_wires.proofs.Pauses.{Enabled, may_end, may_check, may_check_end, may_answer, may_close, out_justified, ack_justified, end_check_justified, slave_end_justified, output_end_justified, answer_justified, input_justified}
 use Rattle.xr_wires.proofs.Lengths.{has_room, out_pause_full, outct_pause_full}
-use Rattle.xr_wires.proofs.Near.{IsNear}
+use Rattle.xr_wires.proofs.Near.{NearEnd}
 
 -- A side is in a piece, and its row doesn't pause.
 abbrev pub Goes : List CoreState → List Inboxes → Ghosts → (channel : ℕ) → Pair → Side → Type 0
 Goes cores boxes g k p side = Enabled (g.spots k side).phase (line cores no_links boxes g p k side) (credits_at cores (place p side).core (place p side).end)
 
-module _ (pairs : List Pair) (wired : IsWired pairs) (cores : List CoreState) (boxes : List Inboxes) (g : Ghosts) (now : Local pairs cores boxes g) (k : ℕ) (p : Pair) (side : Side) (home : Home) (core : CoreState) (end : ChanEnd) (at : IsNear pairs cores k p side home core end) where
+module _ (near_end : NearEnd) where
+  open near_end use {pairs, wired, cores, boxes, ghosts as g, local as now, line as k, pair as p, side, end, is_near as at}
+
   -- the other side, the lines to it and from it, and its credits
   abbrev pub other : Side
   other = other_side side

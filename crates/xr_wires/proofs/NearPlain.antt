@@ -13,13 +13,15 @@ use Rattle.xr_wires.specs.Wires.{place, Ghosts, line, IsWired}
 use Rattle.xr_wires.specs.Balance.{Local}
 use Rattle.xr_wires.proofs.Frames.{parcels}
 use Rattle.xr_wires.proofs.Lengths.{out_pause_full, outct_pause_full}
-use Rattle.xr_wires.proofs.Near.{IsNear}
+use Rattle.xr_wires.proofs.Near.{NearEnd}
 use Rattle.xr_wires.proofs.NearPauses as pauses
 use Rattle.xr_wires.proofs.PlainSides as sides
 use Rattle.xr_wires.proofs.PlainSides.{IsPlain}
 
-module _ (pairs : List Pair) (wired : IsWired pairs) (cores : List CoreState) (boxes : List Inboxes) (g : Ghosts) (now : Local pairs cores boxes g) (k : ℕ) (p : Pair) (side : Side) (home : Home) (core : CoreState) (end : ChanEnd) (at : IsNear pairs cores k p side home core end)
-    (f h : Phase) (is : g.spots k side ≡ spot f false) (other_is : g.spots k (other_side side) ≡ spot h false) where
+module _ (near_end : NearEnd)
+    (f h : Phase) (is : near_end.ghosts.spots near_end.line near_end.side ≡ spot f false) (other_is : near_end.ghosts.spots near_end.line (other_side near_end.side) ≡ spot h false) where
+  open near_end use {pairs, cores, boxes, ghosts as g, local as now, line as k, pair as p, side, core, end, is_near as at}
+
   abbrev other : Side
   other = other_side side
 
@@ -33,7 +35,7 @@ module _ (pairs : List Pair) (wired : IsWired pairs) (cores : List CoreState) (b
   here = line cores no_links boxes g p k side
 
   talk : Talk (spot f false) r there here
-  talk = pauses.talk pairs wired cores boxes g now k p side home core end at (spot f false) is
+  talk = pauses.talk near_end (spot f false) is
 
   -- within a core nothing is late
   on_time : there.late ≡ []
@@ -52,10 +54,10 @@ module _ (pairs : List Pair) (wired : IsWired pairs) (cores : List CoreState) (b
     r_outside = ap (λ (s : Spot). s.inside) other_is
 
     credits : end.credits + length there.buffer ≡ 8
-    credits = pauses.mine pairs wired cores boxes g now k p side home core end at
+    credits = pauses.mine near_end
 
     nothing_out : there.link ≡ []
-    nothing_out = pauses.nothing_out pairs wired cores boxes g now k p side home core end at
+    nothing_out = pauses.nothing_out near_end
 
     -- OUTCT has a credit
     pub has_credit : nat_le 1 end.credits ≡ false → ⊥
@@ -77,10 +79,10 @@ module _ (pairs : List Pair) (wired : IsWired pairs) (cores : List CoreState) (b
     sent_there = ap (λ (s : Spot). unsent s.phase) other_is ∙ all_sent
 
     nothing_in : here.link ≡ []
-    nothing_in = pauses.nothing_in pairs wired cores boxes g now k p side home core end at
+    nothing_in = pauses.nothing_in near_end
 
     nothing_here : here.buffer ≡ []
-    nothing_here = pauses.none_here pairs wired cores boxes g now k p side home core end at none
+    nothing_here = pauses.none_here near_end none
 
     -- the inbox is empty
     pub nothing_came : ahead f ≡ [] → unread f ≡ [] → parcels boxes k side ≡ []
