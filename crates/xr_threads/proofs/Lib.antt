@@ -18,6 +18,7 @@ pub mod Compiled
 pub mod Counts
 pub mod Deciding
 pub mod Declared
+pub mod EndRows
 pub mod EndSteps
 pub mod Ends
 pub mod Evaluations

@@ -48,18 +48,35 @@ pays_for most greatest steps left j further actions more is bound few enough som
     let grown = mul-le-mul_left most le in
     omega (arith, grown)
 
-module _ {moment : Moment none_rests} {thread_at : ThreadAt moment None} (branch_at : BranchAt thread_at)
-    (on : branch_at.branch.mode ≡ runs) (pc : ℕ) (regs regs' : Regs)
-    (here : slice_get thread_at.state.threads thread_at.runner.thread ≡ Some (running thread_at.runner.tie pc regs))
-    (ends : List ChanEnd) (items : List Item) (made : Option Record) (world : World)
-    (acted : acts moment.setting.program moment.setting.stimulus moment.told.state (go thread_at.runner.branch) ≡ Some world)
-    (is_next : IsNext moment.setting thread_at.runner moment.told.state world branch_at.branch (record branch_at.branch { items = items }) made)
-    (store : world.store ≡ moment.told.state.store)
-    (has : Has moment.setting thread_at.runner branch_at.branch.items (record { core = thread_at.state; world = moment.told.state; hand = None }))
-    (unwatched : is_watching items ≡ false) (transfer : Option Transfer) where
+-- What a branch does with a step of its thread on an end: the step leads from these registers to those; the action leaves these items, this record and
+-- this state; and the thread is in this transfer then, or in none.
+pub record ActsAtEnd {moment : Moment none_rests} {thread_at : ThreadAt moment None} (branch_at : BranchAt thread_at) : Type 0 where
+  pub on : branch_at.branch.mode ≡ runs
+  pub pc : ℕ
+  pub before : Regs
+  pub after : Regs
+  pub here : slice_get thread_at.state.threads thread_at.runner.thread ≡ Some (running thread_at.runner.tie pc before)
+  pub items : List Item
+  pub made : Option Record
+  pub world : World
+  pub acted : acts moment.setting.program moment.setting.stimulus moment.told.state (go thread_at.runner.branch) ≡ Some world
+  pub is_next : IsNext moment.setting thread_at.runner moment.told.state world branch_at.branch (record branch_at.branch { items = items }) made
+  pub store : world.store ≡ moment.told.state.store
+  pub has : Has moment.setting thread_at.runner branch_at.branch.items (record { core = thread_at.state; world = moment.told.state; hand = None })
+  pub unwatched : is_watching items ≡ false
+  pub transfer : Option Transfer
+
+module _ {moment : Moment none_rests} {thread_at : ThreadAt moment None} {branch_at : BranchAt thread_at} (does : ActsAtEnd branch_at) where
+  open thread_at use {runner as r}
+
+  abbrev pub s : Runner
+  s = record r { footprint = footprint_of does.items; transfer = does.transfer }
+
+module _ {moment : Moment none_rests} {thread_at : ThreadAt moment None} {branch_at : BranchAt thread_at} (does : ActsAtEnd branch_at) (ends : List ChanEnd) where
   open moment use {setting as g, image as is, roles as who, watched as w, told as x, standing as st}
   open thread_at use {core as c, thread as t, state as a, runner as r}
   open branch_at use {branch, known, stand}
+  open does use {on, pc, before as regs, after as regs', here, items, made, world, acted, is_next, store, has, unwatched, transfer}
 
   abbrev pub left : CoreState
   left = step.left g r a pc regs regs' here ends
@@ -93,9 +110,6 @@ module _ {moment : Moment none_rests} {thread_at : ThreadAt moment None} (branch
     ports = answers.ports_as g r c a x.state now behind (λ p listed its. refl) has.ports;
     transfer = transfer;
   }
-
-  abbrev pub s : Runner
-  s = record r { footprint = footprint_of items; transfer = transfer }
 
   abbrev pub watched : Watched
   watched = watched_on thread_at own_step none_rests
@@ -138,7 +152,7 @@ module _ {moment : Moment none_rests} {thread_at : ThreadAt moment None} (branch
       let all = pays_for (kernel_bound g.program) (greatest_count g.program) (w.lives c t).steps stand.left j further (x.actions r.family) (steps_of g.program g.stimulus r.family (Some x.state) (go r.branch ∷ [])) refl stand.bound few enough one' in
       subst (λ k. k + further ≤ kernel_bound g.program * (more r.family + 1)) (sym life) all
 
-  own_stand : (rests : Bool) (j further : ℕ) → j ≤ stand.left → further ≤ j + 2 + cost g r → StandsWith g s rests transfer items further behind → Stand g s rests None left world (watched.lives c t) more (record branch { items = items })
+  own_stand : (rests : Bool) (j further : ℕ) → j ≤ stand.left → further ≤ j + 2 + cost g r → StandsWith g (s does) rests transfer items further behind → Stand g (s does) rests None left world (watched.lives c t) more (record branch { items = items })
   own_stand rests j further few enough by = record {
     core = stand.core;
     family = stand.family;
@@ -152,7 +166,7 @@ module _ {moment : Moment none_rests} {thread_at : ThreadAt moment None} (branch
     ends_tied = λ over. absurd (runs_ended (sym on ∙ over));
     left = further;
     bound = bound_behind j further few enough;
-    by = subst (λ m. StandsBy g s rests items m further behind) (sym on) by;
+    by = subst (λ m. StandsBy g (s does) rests items m further behind) (sym on) by;
   }
     where
       runs_ended : runs ≡ ended → ⊥
@@ -162,8 +176,8 @@ module _ {moment : Moment none_rests} {thread_at : ThreadAt moment None} (branch
       runs_erred f = cc
 
   -- so the two sides stand so again
-  pub does_so : (rests : (core thread : ℕ) → Bool) (j further : ℕ) → j ≤ stand.left → further ≤ j + 2 + cost g r → StandsWith g s (rests c t) transfer items further behind →
-      AreWired g (with_role who c t (used_by s None)) watched.machine world →
+  pub does_so : (rests : (core thread : ℕ) → Bool) (j further : ℕ) → j ≤ stand.left → further ≤ j + 2 + cost g r → StandsWith g (s does) (rests c t) transfer items further behind →
+      AreWired g (with_role who c t (used_by (s does) None)) watched.machine world →
       ((which : Transfer) → transfer ≡ Some which → HasAlone world.branches which.channel which.side r.branch) → Follows g rests who w x watched
   does_so rests j further few enough by wired alone =
       goes_on_answered thread_at own_step rests wired alone (own_stand (rests c t) j further few enough by)

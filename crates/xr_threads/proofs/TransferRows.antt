@@ -30,7 +30,7 @@ use Rattle.xr_threads.specs.Transfers.{GoesWith, Transfer, acts_left, all_but_fi
 use Rattle.xr_threads.specs.Turns.{Has, InTransfer, IsBehind, TakesSteps, cost}
 use Rattle.xr_threads.specs.Wired.{AreSidesOn, HasAlone, IsLine, boxes_in}
 use Rattle.xr_threads.proofs.Answers as answers
-use Rattle.xr_threads.proofs.ChannelEnds.{acts_there, end, end_is, left_local, near_end}
+use Rattle.xr_threads.proofs.EndRows.{AtEnd, Goal, boxes, ends_row, goes_out, goes_row, inside_there, near_end, sends_row, stays_in}
 use Rattle.xr_threads.proofs.EndSteps as step
 use Rattle.xr_threads.proofs.EndSteps.{gone_on}
 use Rattle.xr_threads.proofs.InTransfers.{IsFollowed, followed, goes_on_so, in_phase, line_is, moves_on, moves_out, on_core, own_line, pauses, spot_is}
@@ -58,9 +58,6 @@ module _ {moment : Moment none_rests} {thread_at : ThreadAt moment None} (branch
   abbrev now : ThreadView
   now = record { core = a; world = x.state; hand = None }
 
-  abbrev Goal : Type 0
-  Goal = IsFollowed g who w x c t r a (slot (home g r) a r.thread)
-
   -- the branch has these items still, where the thread goes on
   has_still : (pc : ℕ) (regs : Regs) (here : slice_get a.threads r.thread ≡ Some (running r.tie pc regs)) (es : List ChanEnd) → Has g r branch.items now → Has g r branch.items (record { core = step.left g r a pc regs regs here es; world = x.state; hand = None })
   has_still pc regs here es h =
@@ -72,74 +69,6 @@ module _ {moment : Moment none_rests} {thread_at : ThreadAt moment None} (branch
         holds = answers.store_as g r c a x.state now then refl refl h.holds;
         ports = answers.ports_as g r c a x.state now then (λ p listed its. refl) h.ports;
       }
-
-  -- The thread is inside a transfer on a side of the channel.
-  module _ (phase : Phase) (its : r.transfer ≡ Some (in_phase channel side phase)) (pc : ℕ) (regs : Regs) (here : slice_get a.threads r.thread ≡ Some (running r.tie pc regs)) where
-    abbrev line : ℕ
-    line = own_line g none_rests who w x st c t r None runs_r channel side phase its
-
-    abbrev at : IsLine g.program line channel
-    at = line_is g none_rests who w x st c t r None runs_r channel side phase its
-
-    abbrev there : AreSidesOn g.program channel c
-    there = on_core g none_rests who w x st c t r None runs_r channel side phase its
-
-    abbrev spot_now : st.wired.ghosts.spots line side ≡ spot phase false
-    spot_now = spot_is g none_rests who w x st c t r None runs_r channel side phase its
-
-    abbrev boxes : List Inboxes
-    boxes = boxes_in g.program x.state.inboxes
-
-    abbrev own_end : ChanEnd
-    own_end = end thread_at channel side line at there
-
-    abbrev its_end : NearEnd
-    its_end = near_end thread_at channel side line at there
-
-    abbrev thread : Thread
-    thread = running r.tie pc regs
-
-    -- A step leaves other ends, and the side of the channel in a later phase.
-    module _ (next : Option Transfer) (later : Phase) (moves : Moves g who c t r (record r { transfer = next }) channel side later) (alone : (transfer : Transfer) → next ≡ Some transfer → HasAlone x.state.branches transfer.channel transfer.side r.branch)
-        (rests : (core thread : ℕ) → Bool) (elsewhere : (d u : ℕ) → d ≢ c → rests d u ≡ false) (fewer : ℕ) (few : suc fewer ≤ stand.left)
-        (by : (es : List ChanEnd) → StandsWith g (record r { transfer = next }) (rests c t) next branch.items fewer (record { core = step.left g r a pc regs regs here es; world = x.state; hand = None })) where
-      made_so : (es : List ChanEnd) → slot (home g r) a r.thread ≡ Made (step.left g r a pc regs regs here es) None [] →
-          Next its_end r.thread thread (step.left g r a pc regs regs here es) boxes (spot later false) → Goal
-      made_so es is_made made =
-          let left = step.left g r a pc regs regs here es in
-          followed rests elsewhere left None (ap (stepped (home g r) w.machine r.core r.thread a) is_made)
-          (goes_on_so branch_at on pc regs here es next rests fewer few (by es)
-          (wired_moves g is.lines who w.machine x.state st.wired c t a at_c r None runs_r (record r { transfer = next }) None channel side line at there later moves left _ x.state refl made.size refl
-          (left_local thread_at channel side line at there left boxes (spot later false) made.local))
-          alone)
-
-      -- tokens go out
-      sends_so : (pos : Pos) (ks : List Token) → Acts (home g r) r.thread (end_place g r channel side) thread pos (sends ks) pc regs →
-          NearSend its_end r.thread thread ks boxes (spot later false) → Goal
-      sends_so pos ks acts result =
-          by_row ((acts_there thread_at channel side line at there r.tie pos (sends ks) pc regs acts).by a own_end here (end_is thread_at channel side line at there)) result
-        where
-          by_row : slot (home g r) a r.thread ≡ near.sent_did its_end r.thread thread ks →
-              NearSend its_end r.thread thread ks boxes (spot later false) → Goal
-          by_row e (sends_pauses did none) = pauses (e ∙ did)
-          by_row e (sends_makes did made) =
-              made_so (near.sent_gone its_end r.thread thread ks).ends (e ∙ did) made
-
-      -- an END is taken
-      checks_so : (pos : Pos) → Acts (home g r) r.thread (end_place g r channel side) thread pos (takes 1) pc regs →
-          NearEndCheck its_end r.thread thread (spot later false) → Goal
-      checks_so pos acts result =
-          by_row ((acts_there thread_at channel side line at there r.tie pos (takes 1) pc regs acts).by a own_end here (end_is thread_at channel side line at there)) result
-        where
-          by_row : slot (home g r) a r.thread ≡ near.check_did its_end r.thread thread 1 →
-              NearEndCheck its_end r.thread thread (spot later false) → Goal
-          by_row e (end_pauses did none) = pauses (e ∙ did)
-          by_row e (end_makes did made) =
-              made_so (near.taken_gone its_end r.thread thread 1).ends (e ∙ did) made
-
-    -- it goes on in its transfer
-    still_alone : (later : Phase) (transfer : Transfer) → Some (in_phase channel side later) ≡ Some transfer → HasAlone x.state.branches transfer.channel transfer.side r.branch
-    still_alone later transfer e = subst (λ (k : Transfer). HasAlone x.state.branches k.channel k.side r.branch) (same_Some (in_phase channel side later) transfer e) (st.alone c t r None (in_phase channel side phase) runs_r its)
 
   -- the thread is at the next step of its transfer
   later_steps : (phase later : Phase) (j fewer : ℕ) → steps_left later + j + cost g r ≤ fewer → (h : InTransfer g r (in_phase channel side phase) branch.items j now) → GoesWith later channel h.pos branch.items →
@@ -163,31 +92,31 @@ module _ {moment : Moment none_rests} {thread_at : ThreadAt moment None} (branch
         },
       )
 
+  abbrev at_end : (phase : Phase) → r.transfer ≡ Some (in_phase channel side phase) → AtEnd thread_at channel side phase
+  at_end phase its = inside_there thread_at channel side phase its
+
   -- END of an output
-  pub sends_end_followed : (v : ℕ) → r.transfer ≡ Some (in_phase channel side (sends_end v)) → (j : ℕ) → 2 + j + cost g r ≤ stand.left → InTransfer g r (in_phase channel side (sends_end v)) branch.items j now → Goal
+  pub sends_end_followed : (v : ℕ) (its : r.transfer ≡ Some (in_phase channel side (sends_end v))) (j : ℕ) → 2 + j + cost g r ≤ stand.left →
+      InTransfer g r (in_phase channel side (sends_end v)) branch.items j now → Goal branch_at (at_end (sends_end v) its)
   sends_end_followed v its j few h =
+      let here = at_end (sends_end v) its in
       let later = awaits_ack (offers v) in
-      let phase = sends_end v in
-      sends_so phase its h.pc h.regs h.here (Some (in_phase channel side later)) later
-      (moves_on g none_rests who w x st c t r None runs_r channel side phase its (record r { transfer = Some (in_phase channel side later) }) later refl)
-      (still_alone phase its h.pc h.regs h.here later) none_rests (λ d u ne. refl) (1 + j + cost g r) (omega (arith, few))
-      (later_steps phase later j (1 + j + cost g r) (omega arith) h h.goes_with (end_sent g r channel side h.pos (IsBehind g r (all_but_first branch.items) j) h.pc h.regs v h.steps))
-      h.pos (control_token 1 ∷ []) h.steps.0
-      (near.outct_end (its_end phase its h.pc h.regs h.here) r.thread (running r.tie h.pc h.regs)
-      v false (spot_now phase its h.pc h.regs h.here))
+      sends_row branch_at here h.pc h.regs h.here h.pos (control_token 1 ∷ []) (boxes branch_at here) later h.steps.0
+      (near.outct_end (near_end branch_at here) r.thread (running r.tie h.pc h.regs) v false here.stands)
+      (goes_row branch_at here h.pc h.regs h.here on (Some (in_phase channel side later)) later (stays_in refl) none_rests (λ d u ne. refl) (1 + j + cost g r) (omega (arith, few))
+      (later_steps (sends_end v) later j (1 + j + cost g r) (omega arith) h h.goes_with
+      (end_sent g r channel side h.pos (IsBehind g r (all_but_first branch.items) j) h.pc h.regs v h.steps)))
 
   -- CHKCT END of an input
-  pub checks_end_followed : r.transfer ≡ Some (in_phase channel side checks_end) → (j : ℕ) → 2 + j + cost g r ≤ stand.left → InTransfer g r (in_phase channel side checks_end) branch.items j now → Goal
+  pub checks_end_followed : (its : r.transfer ≡ Some (in_phase channel side checks_end)) (j : ℕ) → 2 + j + cost g r ≤ stand.left →
+      InTransfer g r (in_phase channel side checks_end) branch.items j now → Goal branch_at (at_end checks_end its)
   checks_end_followed its j few h =
-      let later = sends_ack in
-      let phase = checks_end in
-      checks_so phase its h.pc h.regs h.here (Some (in_phase channel side later)) later
-      (moves_on g none_rests who w x st c t r None runs_r channel side phase its (record r { transfer = Some (in_phase channel side later) }) later refl)
-      (still_alone phase its h.pc h.regs h.here later) none_rests (λ d u ne. refl) (1 + j + cost g r) (omega (arith, few))
-      (later_steps phase later j (1 + j + cost g r) (omega arith) h h.goes_with (end_taken g r channel side h.pos (IsBehind g r branch.items j) h.pc h.regs h.steps))
-      h.pos h.steps.0
-      (near.chkct_end (its_end phase its h.pc h.regs h.here) r.thread (running r.tie h.pc h.regs)
-      false (spot_now phase its h.pc h.regs h.here))
+      let here = at_end checks_end its in
+      ends_row branch_at here h.pc h.regs h.here h.pos sends_ack h.steps.0
+      (near.chkct_end (near_end branch_at here) r.thread (running r.tie h.pc h.regs) false here.stands)
+      (goes_row branch_at here h.pc h.regs h.here on (Some (in_phase channel side sends_ack)) sends_ack (stays_in refl) none_rests (λ d u ne. refl) (1 + j + cost g r) (omega (arith, few))
+      (later_steps checks_end sends_ack j (1 + j + cost g r) (omega arith) h h.goes_with
+      (end_taken g r channel side h.pos (IsBehind g r branch.items j) h.pc h.regs h.steps)))
 
   -- the thread has left its transfer, and is at the code of what is left, or on its way to the store of the word that has come in
   module _ (j : ℕ) (h : InTransfer g r (in_phase channel side sends_ack) branch.items j now) (es : List ChanEnd) where
@@ -227,13 +156,11 @@ module _ {moment : Moment none_rests} {thread_at : ThreadAt moment None} (branch
         )))
 
   -- ACK of an input
-  pub sends_ack_followed : r.transfer ≡ Some (in_phase channel side sends_ack) → (j : ℕ) → 1 + j + cost g r ≤ stand.left → InTransfer g r (in_phase channel side sends_ack) branch.items j now → Goal
+  pub sends_ack_followed : (its : r.transfer ≡ Some (in_phase channel side sends_ack)) (j : ℕ) → 1 + j + cost g r ≤ stand.left →
+      InTransfer g r (in_phase channel side sends_ack) branch.items j now → Goal branch_at (at_end sends_ack its)
   sends_ack_followed its j few h =
-      let phase = sends_ack in
-      sends_so phase its h.pc h.regs h.here None between
-      (moves_out g none_rests who w x st c t r None runs_r channel side phase its (record r { transfer = None }) refl)
-      (λ transfer e. absurd (none-some transfer e)) (rests_alone c t) (λ d u ne. alone_elsewhere c (nat_eq u t) d ne) (j + cost g r) (omega (arith, few))
-      (left_it j h)
-      h.pos (control_token 3 ∷ []) h.steps.0
-      (near.outct_ack (its_end phase its h.pc h.regs h.here) r.thread (running r.tie h.pc h.regs)
-      false (spot_now phase its h.pc h.regs h.here))
+      let here = at_end sends_ack its in
+      sends_row branch_at here h.pc h.regs h.here h.pos (control_token 3 ∷ []) (boxes branch_at here) between h.steps.0
+      (near.outct_ack (near_end branch_at here) r.thread (running r.tie h.pc h.regs) false here.stands)
+      (goes_row branch_at here h.pc h.regs h.here on None between (goes_out refl refl) (rests_alone c t) (λ d u ne. alone_elsewhere c (nat_eq u t) d ne)
+      (j + cost g r) (omega (arith, few)) (left_it j h))
