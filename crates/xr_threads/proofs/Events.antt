@@ -27,7 +27,7 @@ use Rattle.xr_threads.specs.Runners.{Setting, Runner, footprint_of, home}
 use Rattle.xr_threads.specs.ThreadViews.{IsSilentStep, LeadsIn, Rely, ThreadView, giving_back}
 use Rattle.xr_threads.specs.Standing.{EventsAre, HasEnded, HasThread, Stand, Standing, Stands, StandsBy, StandsWith, ThreadIs, none_rests}
 use Rattle.xr_threads.specs.Transfers.{StopsIn, Transfer, steps_left}
-use Rattle.xr_threads.specs.Turns.{Errs, Frees, GivesBack, Goes, InTransfer, IsFree, IsWaitingTied, Joins, JoinsAt, Offers, TakesIn, Turn, Turns, Waits, begins, cost, errs, frees, goes_on, offers, pauses, takes_in, waits_tied}
+use Rattle.xr_threads.specs.Turns.{Communicates, Errs, Frees, GivesBack, Goes, InTransfer, IsFree, IsWaitingTied, Joins, JoinsAt, Piece, Turn, Turns, Waits, begins, communicates, cost, errs, frees, goes_on, pauses, puts_out, takes_in, waits_tied}
 use Rattle.xr_threads.proofs.AnswerRows.{answer_followed}
 use Rattle.xr_threads.proofs.Begun as begun
 use Rattle.xr_threads.proofs.Begun.{begins_followed}
@@ -179,11 +179,10 @@ module _ (moment : Moment none_rests)
       err_goal : r.transfer ≡ None → Errs g r alone → Leaves (slot (home g r) a r.thread) → Goal
       err_goal outside h e = by_followed (errs_followed here_alone (subst StopsIn (sym outside) tt) h) e
 
-      begin_goal : r.transfer ≡ None → branch.mode ≡ runs → (j : ℕ) → j ≤ stand.left → Offers g r j alone → Leaves (slot (home g r) a r.thread) → Goal
-      begin_goal outside on j few h e = by_followed (offer_followed here_alone on outside j few h) e
-
-      input_goal : r.transfer ≡ None → branch.mode ≡ runs → (j : ℕ) → j ≤ stand.left → TakesIn g r j alone → Leaves (slot (home g r) a r.thread) → Goal
-      input_goal outside on j few h e = by_followed (input_followed here_alone on outside j few h) e
+      piece_goal : r.transfer ≡ None → branch.mode ≡ runs → (j : ℕ) → j ≤ stand.left → (piece : Piece) → Communicates g r piece j alone →
+          Leaves (slot (home g r) a r.thread) → Goal
+      piece_goal outside on j few (puts_out o v) h e = by_followed (offer_followed here_alone on outside j few o v h) e
+      piece_goal outside on j few (takes_in i) h e = by_followed (input_followed here_alone on outside j few i h) e
 
       go_goal : r.transfer ≡ None → (j : ℕ) → j ≤ stand.left → Goes g r j alone → Leaves (slot (home g r) a r.thread) → Goal
       go_goal outside j few h e =
@@ -207,8 +206,8 @@ module _ (moment : Moment none_rests)
     at_turn on out j few (goes_on h) e = go_goal h.no_hand out j few (subst (λ k. Goes g r j (record { core = a; world = x.state; hand = k })) h.no_hand h) e
     at_turn on out j few (frees h) e = free_goal h.no_hand out (subst (λ k. Frees g r (record { core = a; world = x.state; hand = k })) h.no_hand h) e
     at_turn on out j few (waits_tied h) e = wait_goal h.no_hand out (subst (λ k. Waits g r (record { core = a; world = x.state; hand = k })) h.no_hand h) e
-    at_turn on out j few (offers h) e = begin_goal h.no_hand out on j few (subst (λ k. Offers g r j (record { core = a; world = x.state; hand = k })) h.no_hand h) e
-    at_turn on out j few (takes_in h) e = input_goal h.no_hand out on j few (subst (λ k. TakesIn g r j (record { core = a; world = x.state; hand = k })) h.no_hand h) e
+    at_turn on out j few (communicates piece h) e =
+        piece_goal h.no_hand out on j few piece (subst (λ k. Communicates g r piece j (record { core = a; world = x.state; hand = k })) h.no_hand h) e
     at_turn on out j few (begins h) e =
         let same : branch ≡ h.branch = same_Some branch h.branch (sym known ∙ h.does_par.known) in
         let stand' = stand_of g r false hand a x.state (w.lives c t) x.actions branch h.branch same stand in

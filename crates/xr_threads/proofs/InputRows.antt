@@ -37,7 +37,7 @@ use Rattle.xr_threads.specs.Runners.{IsChannel, Runner, Setting, footprint_of, h
 use Rattle.xr_threads.specs.ThreadViews.{ThreadView, running}
 use Rattle.xr_threads.specs.Standing.{Stand, Standing, StandsWith, none_rests}
 use Rattle.xr_threads.specs.Transfers.{AwaitsNothing, StopsIn, Transfer}
-use Rattle.xr_threads.specs.Turns.{Errs, Has, InTransfer, IsNext, Runs, TakesIn, cost, is_watching}
+use Rattle.xr_threads.specs.Turns.{Communicates, Errs, Has, InTransfer, IsNext, Runs, cost, is_watching, takes_in}
 use Rattle.xr_threads.specs.Wired.{AreSidesOn, HasAlone, IsLine, boxes_in}
 use Rattle.xr_threads.proofs.ChannelBoxes.{line_boxed, line_parcels}
 use Rattle.xr_threads.proofs.ChannelWorlds.{input_errs, received, received_boxes, takes_offer}
@@ -75,19 +75,20 @@ storing_fits g r (Some place) v rest changes counted fits = ((changes, counted),
 
 module _ {moment : Moment none_rests} {thread_at : ThreadAt moment None} (branch_at : BranchAt thread_at)
     (on : branch_at.branch.mode ≡ runs) (none : thread_at.runner.transfer ≡ None) (j : ℕ) (few : j ≤ branch_at.stand.left)
-    (h : TakesIn moment.setting thread_at.runner j (record { core = thread_at.state; world = moment.told.state; hand = None })) where
+    (i : kernel.Input)
+    (h : Communicates moment.setting thread_at.runner (takes_in i) j (record { core = thread_at.state; world = moment.told.state; hand = None })) where
   open moment use {setting as g, first, image as is, roles as who, watched as w, told as x, standing as st}
   open thread_at use {core as c, thread as t, state as a, at_core as at_c, runner as r, runs as runs_r}
   open branch_at use {branch, known, stand}
 
   -- the branch, which has the input to do next
-  begins_with : branch.items ≡ does (kernel.input h.input) ∷ h.rest
+  begins_with : branch.items ≡ does (kernel.input i) ∷ h.rest
   begins_with = ap (λ (b : Branch). b.items) (same_Some branch h.has.branch (sym known ∙ h.has.runs.known)) ∙ h.has.runs.items_are
 
   has : Has g r branch.items (record { core = a; world = x.state; hand = None })
   has = subst (λ items. Has g r items (record { core = a; world = x.state; hand = None })) (sym begins_with) h.has
 
-  to_do : Runs x.state r.branch branch (does (kernel.input h.input) ∷ h.rest)
+  to_do : Runs x.state r.branch branch (does (kernel.input i) ∷ h.rest)
   to_do = record { known = known; running = on; items_are = begins_with }
 
   pub stands : side_of branch h.on.channel ≡ Some h.on.side
@@ -103,7 +104,7 @@ module _ {moment : Moment none_rests} {thread_at : ThreadAt moment None} (branch
   uses =
       subst (λ items. IsTrue (by_items (channel h.on.channel) items)) (sym begins_with)
       (or_left _ (by_items (channel h.on.channel) h.rest)
-      (or_left (by_resource (channel h.on.channel) h.input.resource) _ (ap (by_resource (channel h.on.channel)) h.on.is_channel ∙ same_number h.on.channel)))
+      (or_left (by_resource (channel h.on.channel) i.resource) _ (ap (by_resource (channel h.on.channel)) h.on.is_channel ∙ same_number h.on.channel)))
 
   abbrev at_end : AtEnd thread_at h.on.channel h.on.side between
   at_end = begins_there thread_at none branch known on h.on.channel h.on.side is_channel uses stands
@@ -115,13 +116,13 @@ module _ {moment : Moment none_rests} {thread_at : ThreadAt moment None} (branch
   module _ (v : ℕ) (ps : List Parcel) (found : parcels x.state.inboxes h.on.channel h.on.side ≡ offer v ∷ ps) where
     -- the branch takes the offer and answers it, and has the word to store
     abbrev items : List Item
-    items = storing h.input.target v h.rest
+    items = storing i.target v h.rest
 
     abbrev world : World
-    world = received g.program g.stimulus r.branch x.state branch h.on.channel h.on.side h.rest stands outside h.input.target v
+    world = received g.program g.stimulus r.branch x.state branch h.on.channel h.on.side h.rest stands outside i.target v
 
     world_boxes : world.inboxes ≡ boxed (boxed x.state.inboxes h.on.channel h.on.side ps) h.on.channel (other_side h.on.side) (parcels x.state.inboxes h.on.channel (other_side h.on.side) ++ taken ∷ [])
-    world_boxes = received_boxes g.program g.stimulus r.branch x.state branch h.on.channel h.on.side h.rest stands outside h.input.target v ps few_boxes found
+    world_boxes = received_boxes g.program g.stimulus r.branch x.state branch h.on.channel h.on.side h.rest stands outside i.target v ps few_boxes found
 
     as_many : length world.inboxes ≡ length x.state.inboxes
     as_many = ap length world_boxes ∙ length_box (boxed x.state.inboxes h.on.channel h.on.side ps) h.on.channel _ ∙ length_box x.state.inboxes h.on.channel _
@@ -131,7 +132,7 @@ module _ {moment : Moment none_rests} {thread_at : ThreadAt moment None} (branch
 
     -- nothing is waited for behind it
     nothing_awaited_behind : AwaitsNothing items
-    nothing_awaited_behind = storing_awaits_nothing h.input.target v h.rest h.awaits_nothing
+    nothing_awaited_behind = storing_awaits_nothing i.target v h.rest h.ready
 
     abbrev regs' : Regs
     regs' = reg_set h.regs R0 v
@@ -146,7 +147,7 @@ module _ {moment : Moment none_rests} {thread_at : ThreadAt moment None} (branch
       items = items;
       made = Some (Com r.core v);
       world = world;
-      acted = takes_offer g.program g.stimulus r.branch x.state branch h.on.channel h.on.side h.rest stands outside h.input v ps h.on.is_channel found to_do;
+      acted = takes_offer g.program g.stimulus r.branch x.state branch h.on.channel h.on.side h.rest stands outside i v ps h.on.is_channel found to_do;
       is_next = record { clocks = refl; branches = refl; store = λ k e. refl; trace = ap (λ n. x.state.trace ++ Com n v ∷ []) stand.core };
       store = refl;
       has = has;
@@ -158,15 +159,15 @@ module _ {moment : Moment none_rests} {thread_at : ThreadAt moment None} (branch
       -- the thread is inside the transfer
       inside : InTransfer g r transfer items j (behind does_input es)
       inside = record {
-        pos = h.input.pos;
+        pos = i.pos;
         goes_with = nothing_awaited_behind;
         stands_in = h.on.stands_in;
         no_hand = refl;
         pc = h.pc + 1;
         regs = regs';
         here = gone_on g r a h.pc h.regs regs' h.here es;
-        steps = word_come g r h.on.channel h.on.side h.input.pos h.input.target h.rest j h.pc h.regs v h.steps;
-        fits = storing_fits g r h.input.target v h.rest h.fits.0.0.target (let counted = h.fits.0.1 in omega (arith, counted)) h.fits.1;
+        steps = word_come g r h.on.channel h.on.side i.pos i.target h.rest j h.pc h.regs v h.steps;
+        fits = storing_fits g r i.target v h.rest h.fits.0.0.target (let counted = h.fits.0.1 in omega (arith, counted)) h.fits.1;
         has = has_behind does_input es;
       }
 
@@ -189,19 +190,19 @@ module _ {moment : Moment none_rests} {thread_at : ThreadAt moment None} (branch
       Errs g r (record { core = a; world = x.state; hand = None })
   errs p ps found wrong traps = record {
     kind = Mismatch;
-    pos = h.input.pos;
+    pos = i.pos;
     traps = traps;
     fault = h.steps.0.faults a h.here;
     holds = h.has.holds;
     ports = h.has.ports;
     no_hand = refl;
-    acts = err_acts g r x.state branch (does (kernel.input h.input)) h.rest Mismatch h.input.pos to_do stand.core
-        (input_errs g.program g.stimulus r.branch x.state branch h.on.channel h.on.side h.rest stands outside h.input p ps h.on.is_channel found wrong);
+    acts = err_acts g r x.state branch (does (kernel.input i)) h.rest Mismatch i.pos to_do stand.core
+        (input_errs g.program g.stimulus r.branch x.state branch h.on.channel h.on.side h.rest stands outside i p ps h.on.is_channel found wrong);
     store = refl;
   }
 
   pub input_followed : Goal branch_at at_end
   input_followed =
-      word_row branch_at at_end h.pc h.regs h.here h.input.pos R0 offer is_offer (answered_there branch_at at_end) checks_end h.steps.0
+      word_row branch_at at_end h.pc h.regs h.here i.pos R0 offer is_offer (answered_there branch_at at_end) checks_end h.steps.0
       (near.in_plain (near_end branch_at at_end) r.thread (running r.tie h.pc h.regs) R0 at_end.stands)
       made_so (λ p ps found wrong traps. errs_followed branch_at (subst StopsIn (sym none) tt) (errs p ps found wrong traps))

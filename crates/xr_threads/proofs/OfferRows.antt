@@ -30,7 +30,7 @@ use Rattle.xr_threads.specs.Runners.{IsChannel, Runner, Setting, footprint_of, h
 use Rattle.xr_threads.specs.ThreadViews.{ThreadView, running}
 use Rattle.xr_threads.specs.Standing.{Stand, Standing, StandsWith, none_rests}
 use Rattle.xr_threads.specs.Transfers.{Transfer}
-use Rattle.xr_threads.specs.Turns.{Has, InTransfer, IsBehind, IsNext, Offers, Runs, cost}
+use Rattle.xr_threads.specs.Turns.{Communicates, Has, InTransfer, IsBehind, IsNext, Runs, cost, puts_out}
 use Rattle.xr_threads.specs.Wired.{AreSidesOn, HasAlone, IsLine, boxes_in}
 use Rattle.xr_threads.proofs.ChannelBoxes.{line_boxed, line_parcels}
 use Rattle.xr_threads.proofs.ChannelWorlds.{offered, offers_word}
@@ -55,19 +55,20 @@ use Rattle.xr_wires.proofs.Updates.{moved_to}
 
 module _ {moment : Moment none_rests} {thread_at : ThreadAt moment None} (branch_at : BranchAt thread_at)
     (on : branch_at.branch.mode ≡ runs) (none : thread_at.runner.transfer ≡ None) (j : ℕ) (few : j ≤ branch_at.stand.left)
-    (h : Offers moment.setting thread_at.runner j (record { core = thread_at.state; world = moment.told.state; hand = None })) where
+    (o : kernel.Output) (v : ℕ)
+    (h : Communicates moment.setting thread_at.runner (puts_out o v) j (record { core = thread_at.state; world = moment.told.state; hand = None })) where
   open moment use {setting as g, image as is, roles as who, watched as w, told as x, standing as st}
   open thread_at use {core as c, thread as t, state as a, at_core as at_c, runner as r, runs as runs_r}
   open branch_at use {branch, known, stand}
 
   -- the branch, which has the output to do next
-  begins_with : branch.items ≡ does (kernel.output h.output) ∷ h.rest
+  begins_with : branch.items ≡ does (kernel.output o) ∷ h.rest
   begins_with = ap (λ (b : Branch). b.items) (same_Some branch h.has.branch (sym known ∙ h.has.runs.known)) ∙ h.has.runs.items_are
 
   has : Has g r branch.items (record { core = a; world = x.state; hand = None })
   has = subst (λ items. Has g r items (record { core = a; world = x.state; hand = None })) (sym begins_with) h.has
 
-  to_do : Runs x.state r.branch branch (does (kernel.output h.output) ∷ h.rest)
+  to_do : Runs x.state r.branch branch (does (kernel.output o) ∷ h.rest)
   to_do = record { known = known; running = on; items_are = begins_with }
 
   pub stands : side_of branch h.on.channel ≡ Some h.on.side
@@ -83,17 +84,17 @@ module _ {moment : Moment none_rests} {thread_at : ThreadAt moment None} (branch
   uses =
       subst (λ items. IsTrue (by_items (channel h.on.channel) items)) (sym begins_with)
       (or_left _ (by_items (channel h.on.channel) h.rest)
-      (or_left (by_resource (channel h.on.channel) h.output.resource) _ (ap (by_resource (channel h.on.channel)) h.on.is_channel ∙ same_number h.on.channel)))
+      (or_left (by_resource (channel h.on.channel) o.resource) _ (ap (by_resource (channel h.on.channel)) h.on.is_channel ∙ same_number h.on.channel)))
 
   abbrev at_end : AtEnd thread_at h.on.channel h.on.side between
   at_end = begins_there thread_at none branch known on h.on.channel h.on.side is_channel uses stands
 
   -- the branch offers its word, and waits
   abbrev items : List Item
-  items = awaits h.on.channel h.output.pos ∷ h.rest
+  items = awaits h.on.channel o.pos ∷ h.rest
 
   abbrev transfer : Transfer
-  transfer = in_phase h.on.channel h.on.side (sends_end h.value)
+  transfer = in_phase h.on.channel h.on.side (sends_end v)
 
   abbrev does_offer : ActsAtEnd branch_at
   does_offer = record {
@@ -104,8 +105,8 @@ module _ {moment : Moment none_rests} {thread_at : ThreadAt moment None} (branch
     here = h.here;
     items = items;
     made = None;
-    world = offered g.program g.stimulus r.branch x.state branch h.on.channel h.on.side h.rest stands outside h.output.pos h.value;
-    acted = offers_word g.program g.stimulus r.branch x.state branch h.on.channel h.on.side h.rest stands outside h.output h.value h.on.is_channel h.value_is to_do;
+    world = offered g.program g.stimulus r.branch x.state branch h.on.channel h.on.side h.rest stands outside o.pos v;
+    acted = offers_word g.program g.stimulus r.branch x.state branch h.on.channel h.on.side h.rest stands outside o v h.on.is_channel h.ready to_do;
     is_next = record { clocks = refl; branches = refl; store = λ k e. refl; trace = refl };
     store = refl;
     has = has;
@@ -117,14 +118,14 @@ module _ {moment : Moment none_rests} {thread_at : ThreadAt moment None} (branch
     -- the thread is inside the transfer
     inside : InTransfer g r transfer items j (behind does_offer es)
     inside = record {
-      pos = h.output.pos;
+      pos = o.pos;
       goes_with = (h.rest, refl);
       stands_in = h.on.stands_in;
       no_hand = refl;
       pc = h.pc + 1;
       regs = h.regs;
       here = gone_on g r a h.pc h.regs h.regs h.here es;
-      steps = offer_sent g r h.on.channel h.on.side h.output.pos (IsBehind g r h.rest j) h.pc h.regs h.value h.steps;
+      steps = offer_sent g r h.on.channel h.on.side o.pos (IsBehind g r h.rest j) h.pc h.regs v h.steps;
       fits = (is_channel, h.fits.1);
       has = has_behind does_offer es;
     }
@@ -139,7 +140,7 @@ module _ {moment : Moment none_rests} {thread_at : ThreadAt moment None} (branch
 
   pub offer_followed : Goal branch_at at_end
   offer_followed =
-      sends_row branch_at at_end h.pc h.regs h.here h.output.pos (word_tokens h.value) (put_there branch_at at_end (offer h.value)) (sends_end h.value) h.steps.0
-      (near.out_plain (near_end branch_at at_end) r.thread (running r.tie h.pc h.regs) h.value at_end.stands)
-      (acts_row branch_at at_end does_offer (sends_end h.value) (stays_in refl) none_rests (λ d u ne. refl) j (2 + j + cost g r) few (omega arith)
-      (put_there branch_at at_end (offer h.value)) (boxes_put branch_at at_end (offer h.value)) (length_box x.state.inboxes h.on.channel _) stands_inside)
+      sends_row branch_at at_end h.pc h.regs h.here o.pos (word_tokens v) (put_there branch_at at_end (offer v)) (sends_end v) h.steps.0
+      (near.out_plain (near_end branch_at at_end) r.thread (running r.tie h.pc h.regs) v at_end.stands)
+      (acts_row branch_at at_end does_offer (sends_end v) (stays_in refl) none_rests (λ d u ne. refl) j (2 + j + cost g r) few (omega arith)
+      (put_there branch_at at_end (offer v)) (boxes_put branch_at at_end (offer v)) (length_box x.state.inboxes h.on.channel _) stands_inside)

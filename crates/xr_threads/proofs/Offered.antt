@@ -26,7 +26,7 @@ use Rattle.xr_threads.specs.Parents.{syncs_of}
 use Rattle.xr_threads.specs.Runners.{Setting, Runner, IsChannel, IsLaidOut, code, end_place, home, plan, relied}
 use Rattle.xr_threads.specs.ThreadViews.{ThreadView, Rely, running}
 use Rattle.xr_threads.specs.Turns as turn
-use Rattle.xr_threads.specs.Turns.{Has, HasBases, IsAt, IsBehind, ItemsFrom, Leads, Offers, TakesSteps, Turn, Turns, cost}
+use Rattle.xr_threads.specs.Turns.{Communicates, Has, HasBases, IsAt, IsBehind, ItemsFrom, Leads, TakesSteps, Turn, Turns, cost, puts_out}
 use Rattle.xr_threads.proofs.Arriving.{Since, any_part, apart_of_changes, arrives, at_runs, core_kept, since_kept}
 use Rattle.xr_threads.proofs.Bases.{bases_worked}
 use Rattle.xr_threads.proofs.Evaluations.{eval_still, nodes_are, value_errs}
@@ -50,13 +50,11 @@ module _ (g : Setting) (r : Runner) (laid : IsLaidOut g r) (o : kernel.Output) (
 
   -- at the first step of the protocol
   offers_there : (z y q : ThreadView) (regs : Regs) (v : ℕ) → HasBases g r regs → Rely g r y q → q.hand ≡ None → Has g r (item ∷ rest) q → eval q.world.store o.value ≡ word v →
-      AtProtocol (home g r) (relied g r) r.stack r.thread (end_place g r c side) (running r.tie pc regs) z.core.words o.pos (output_acts v true) (EndsAt pc') y.core → Offers g r j q
+      AtProtocol (home g r) (relied g r) r.stack r.thread (end_place g r c side) (running r.tie pc regs) z.core.words o.pos (output_acts v true) (EndsAt pc') y.core → Communicates g r (puts_out o v) j q
   offers_there z y q regs v bases kept no_hand has is at = record {
-    output = o;
     rest = rest;
     on = record { channel = c; is_channel = to_channel; side = side; stands_in = stands_in };
-    value = v;
-    value_is = is;
+    ready = is;
     no_hand = no_hand;
     pc = at.index;
     regs = at.regs;
@@ -90,7 +88,7 @@ module _ (g : Setting) (r : Runner) (laid : IsLaidOut g r) (o : kernel.Output) (
       still d e = eval_still (plan g r).vars r.footprint.uses z.world.store q.world.store since'.store o.value fits.value ∙ e
 
       by : (v : Value) → eval z.world.store o.value ≡ v → OutputReaches (home g r) (relied g r) r.stack r.thread (end_place g r c side) (running r.tie pc regs) z.core.words true o.pos pc' v y.core → Turn g r j q
-      by (word v) e at = turn.offers (offers_there z y q regs v bases k (since'.hand ∙ no_hand) has_q (still (word v) e) at)
+      by (word v) e at = turn.communicates (puts_out o v) (offers_there z y q regs v bases k (since'.hand ∙ no_hand) has_q (still (word v) e) at)
       by (error kind pos) e traps =
           turn.errs (value_errs g r q item rest kind pos (traps q.core (core_kept g r k)) has_q (since'.hand ∙ no_hand) (output_step q.world has_q.branch (error kind pos) (still (error kind pos) e)))
 

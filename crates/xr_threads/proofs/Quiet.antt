@@ -29,7 +29,7 @@ use Rattle.xr_threads.specs.Runners.{Setting, Runner, home}
 use Rattle.xr_threads.specs.ThreadViews.{LeadsIn, Rely, ThreadView, giving_back}
 use Rattle.xr_threads.specs.Standing.{HasEnded, IsRun, Stand, Standing, StandsBy, StandsWith, none_rests}
 use Rattle.xr_threads.specs.Transfers.{Transfer}
-use Rattle.xr_threads.specs.Turns.{CannotAct, GivesBack, Joins, Turn, Turns, begins, errs, frees, goes_on, offers, pauses, takes_in, waits_tied}
+use Rattle.xr_threads.specs.Turns.{CannotAct, GivesBack, Joins, Turn, Turns, begins, errs, frees, goes_on, pauses, waits_tied, communicates, puts_out, takes_in}
 use Rattle.xr_threads.proofs.Deciding.{done_each, joins_together}
 use Rattle.xr_threads.proofs.Moments.{Moment, ThreadAt, thread_of}
 use Rattle.xr_threads.proofs.Moves.{core_of, kept_now, stands_at}
@@ -126,8 +126,8 @@ module _ (moment : Moment none_rests)
     turn_cannot j none (frees h) = absurd (not_made h.left None h.made_is)
     turn_cannot j none (waits_tied h) = absurd (not_made h.left None h.made_is)
     turn_cannot j none (begins h) = absurd (not_made _ None h.goes)
-    turn_cannot j none (offers h) = absurd (offers_goes moment quiet thread_at j none h)
-    turn_cannot j none (takes_in h) = takes_in_cannot moment quiet thread_at j none h
+    turn_cannot j none (communicates (puts_out o v) h) = absurd (offers_goes moment quiet thread_at j none o v h)
+    turn_cannot j none (communicates (takes_in i) h) = takes_in_cannot moment quiet thread_at j none i h
 
     -- no step on the way to somewhere is left
     arrived : (Q : ThreadView → Type 0) (n : ℕ) → LeadsIn g r Q n now → Q now

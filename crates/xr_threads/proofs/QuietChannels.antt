@@ -38,7 +38,7 @@ use Rattle.xr_threads.specs.Runners.{IsChannel, Runner, Setting, end_place, home
 use Rattle.xr_threads.specs.ThreadViews.{ThreadView, running}
 use Rattle.xr_threads.specs.Standing.{Standing, none_rests}
 use Rattle.xr_threads.specs.Transfers.{GoesWith, IsAwaiting, Transfer, acts_left, items_behind}
-use Rattle.xr_threads.specs.Turns.{CannotAct, InTransfer, IsBehind, Offers, Runs, TakesIn, TakesSteps}
+use Rattle.xr_threads.specs.Turns.{CannotAct, Communicates, InTransfer, IsBehind, Runs, TakesSteps, puts_out, takes_in}
 use Rattle.xr_threads.specs.Wired.{AreSidesOn, IsLine, boxes_in}
 use Rattle.xr_threads.proofs.ChannelBoxes.{line_parcels}
 use Rattle.xr_threads.proofs.ChannelEnds.{end, near_end}
@@ -212,26 +212,26 @@ module _ (moment : Moment none_rests)
         its_use = subst (λ l. IsTrue (by_items (the_channel channel) l)) (sym on.items_are) uses
 
     -- An output's OUT goes on.
-    pub offers_goes : (j : ℕ) → r.transfer ≡ None → Offers g r j view → ⊥
-    offers_goes j none h =
+    pub offers_goes : (j : ℕ) → r.transfer ≡ None → (o : kernel.Output) (v : ℕ) → Communicates g r (puts_out o v) j view → ⊥
+    offers_goes j none o v h =
         let channel = h.on.channel in
         let side = h.on.side in
         let used = subst (PutsOutAt g r) h.on.is_channel h.fits.0.0.to in
-        let at = begins_on none h.has.branch (does (kernel.output h.output) ∷ h.rest) h.has.runs channel side used (output_uses channel h.output h.rest h.on.is_channel) h.on.stands_in in
+        let at = begins_on none h.has.branch (does (kernel.output o) ∷ h.rest) h.has.runs channel side used (output_uses channel o h.rest h.on.is_channel) h.on.stands_in in
         four_sent channel side at.line at.is_line at.on_core at.spot_is
-        (sends_wait moment quiet thread_at channel side at.line at.is_line at.on_core h.output.pos h.pc h.regs h.here (word_tokens h.value) h.steps.0)
+        (sends_wait moment quiet thread_at channel side at.line at.is_line at.on_core o.pos h.pc h.regs h.here (word_tokens v) h.steps.0)
 
     -- An input's IN waits for a word, and nothing is in the inbox.
-    pub takes_in_cannot : (j : ℕ) → r.transfer ≡ None → TakesIn g r j view → CannotAct g r x.state
-    takes_in_cannot j none h =
+    pub takes_in_cannot : (j : ℕ) → r.transfer ≡ None → (i : kernel.Input) → Communicates g r (takes_in i) j view → CannotAct g r x.state
+    takes_in_cannot j none i h =
         let channel = h.on.channel in
         let side = h.on.side in
         let runs = h.has.runs in
         let used = subst (TakesInAt g r) h.on.is_channel h.fits.0.0.from in
-        let at = begins_on none h.has.branch (does (kernel.input h.input) ∷ h.rest) runs channel side used (input_uses channel h.input h.rest h.on.is_channel) h.on.stands_in in
-        let slow = word_waits moment quiet thread_at channel side at.line at.is_line at.on_core h.input.pos h.pc h.regs h.here R0 h.steps.0 in
+        let at = begins_on none h.has.branch (does (kernel.input i) ∷ h.rest) runs channel side used (input_uses channel i h.rest h.on.is_channel) h.on.stands_in in
+        let slow = word_waits moment quiet thread_at channel side at.line at.is_line at.on_core i.pos h.pc h.regs h.here R0 h.steps.0 in
         let nothing = its_inbox channel side at.line at.is_line at.on_core (no_word channel side at.line at.is_line at.on_core at.spot_is slow.0 slow.1) in
-        input_cannot g r x.state h.has.branch (does (kernel.input h.input)) h.rest runs channel side (stands_on h.has.branch runs.known channel side h.on.stands_in) (st.plain.outside r.branch h.has.branch runs.known) nothing h.input refl h.on.is_channel
+        input_cannot g r x.state h.has.branch (does (kernel.input i)) h.rest runs channel side (stands_on h.has.branch runs.known channel side h.on.stands_in) (st.plain.outside r.branch h.has.branch runs.known) nothing i refl h.on.is_channel
 
     -- Inside a transfer the branch waits for an answer, and nothing is in the inbox; the other steps go on.
     pub inside_cannot : (transfer : Transfer) → r.transfer ≡ Some transfer → (items : List Item) (j : ℕ) → InTransfer g r transfer items j view → CannotAct g r x.state

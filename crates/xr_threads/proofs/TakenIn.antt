@@ -24,7 +24,7 @@ use Rattle.xr_threads.specs.Parents.{syncs_of}
 use Rattle.xr_threads.specs.Runners.{Setting, Runner, IsChannel, IsLaidOut, code, end_place, home, plan, relied}
 use Rattle.xr_threads.specs.ThreadViews.{ThreadView, Rely, running}
 use Rattle.xr_threads.specs.Turns as turn
-use Rattle.xr_threads.specs.Turns.{Has, HasBases, IsAt, IsBehind, IsOnSide, ItemsFrom, Leads, StatementLeads, TakesIn, TakesSteps, Turns, cost, in_r0}
+use Rattle.xr_threads.specs.Turns.{Communicates, Has, HasBases, IsAt, IsBehind, IsOnSide, ItemsFrom, Leads, StatementLeads, TakesSteps, Turns, cost, in_r0, takes_in}
 use Rattle.xr_threads.proofs.Arriving.{Since, any_part, apart_of_changes, arrives, at_runs, since_kept}
 use Rattle.xr_threads.proofs.Bases.{bases_scratched, bases_worked}
 use Rattle.xr_threads.proofs.Identifiers.{end_named}
@@ -52,9 +52,8 @@ module _ (g : Setting) (r : Runner) (rest : List Item) (exits : List Exit) (pc p
   module _ (i : kernel.Input) (item_fits : Fits g r (kernel.input i)) (rest_fits : ItemsFit g r rest) (c : ℕ) (to_channel : i.resource ≡ Chan c) (side : Side) (stands_in : slice_index_or r.sides c None ≡ Some side) (writes : WritesTo (plan g r).vars i.target (pc + length transfer) write) where
     -- at the first step of the protocol
     takes_there : (z y q : ThreadView) (regs : Regs) → HasBases g r regs → Rely g r y q → q.hand ≡ None → Has g r (does (kernel.input i) ∷ rest) q →
-        AtProtocol (home g r) (relied g r) r.stack r.thread (end_place g r c side) (running r.tie pc regs) z.core.words i.pos (input_acts R0 true) (EndsAt (pc + length transfer)) y.core → TakesIn g r j q
+        AtProtocol (home g r) (relied g r) r.stack r.thread (end_place g r c side) (running r.tie pc regs) z.core.words i.pos (input_acts R0 true) (EndsAt (pc + length transfer)) y.core → Communicates g r (takes_in i) j q
     takes_there z y q regs bases kept no_hand has at = record {
-      input = i;
       rest = rest;
       on = record { channel = c; is_channel = to_channel; side = side; stands_in = stands_in };
       no_hand = no_hand;
@@ -62,7 +61,7 @@ module _ (g : Setting) (r : Runner) (rest : List Item) (exits : List Exit) (pc p
       regs = at.regs;
       here = kept.thread ∙ at.here;
       steps = steps;
-      awaits_nothing = nothing_awaited g r rest exits pc' j behind;
+      ready = nothing_awaited g r rest exits pc' j behind;
       fits = (item_fits, rest_fits);
       has = has;
     }
@@ -98,7 +97,7 @@ take_leads g r i c to_channel used rest exits pc pc' j z regs laid piece fits (s
     (leads_as g r (λ y. outcome y.core × Since g r (IsApart r.stack) any_part z y) (Turns g r j) 3 z
     (λ y h q k.
     let since = since_kept g r (IsApart r.stack) any_part h.1 k in
-    turn.takes_in (takes_there g r rest exits pc pc' j parts.transfer parts.write end (stand_back (code g r) pc parts.transfer parts.write stand) behind i fits rest_fits c to_channel side stands_in parts.writes
+    turn.communicates (takes_in i) (takes_there g r rest exits pc pc' j parts.transfer parts.write end (stand_back (code g r) pc parts.transfer parts.write stand) behind i fits rest_fits c to_channel side stands_in parts.writes
     z y q regs bases k (since.hand ∙ no_hand) (has_since g r laid (does (kernel.input i) ∷ rest) z q since (since.room has.holds.room) has) h.0))
     (arrives g r (IsApart r.stack) (apart_of_changes g r) outcome 3 z (at_runs g r z pc regs here) way))
 

@@ -146,6 +146,38 @@ SameStamps g core (stamps (resource.Port p) place v ∷ rest) a b =
     (slice_get b.ports (port_number core g.program.ports p) ≡ slice_get a.ports (port_number core g.program.ports p)) × SameStamps g core rest a b
 SameStamps g core items a b = Unit {0}
 
+-- A piece of code on a channel: it puts a word out, or takes one in.
+pub data Piece : Type 0 where
+  puts_out : (output : kernel.Output) (value : ℕ) → Piece
+  takes_in : (input : kernel.Input) → Piece
+
+-- the statement whose code it is, the resource and the place that this names, and the steps of its protocol
+abbrev pub statement_of : Piece → kernel.Statement
+statement_of (puts_out o v) = kernel.output o
+statement_of (takes_in i) = kernel.input i
+
+abbrev pub resource_of : Piece → KRes
+resource_of (puts_out o v) = o.resource
+resource_of (takes_in i) = i.resource
+
+abbrev pub pos_of : Piece → Pos
+pos_of (puts_out o v) = o.pos
+pos_of (takes_in i) = i.pos
+
+abbrev pub piece_acts : Piece → List Act
+piece_acts (puts_out o v) = output_acts v true
+piece_acts (takes_in i) = input_acts R0 true
+
+-- what is left to the branch behind its last step, where the thread has these registers then: a word that has come is in r0, and is stored next
+abbrev pub left_behind : Piece → List Item → Regs → List Item
+left_behind (puts_out o v) rest last = rest
+left_behind (takes_in i) rest last = storing i.target last.r0 rest
+
+-- The value of an output is this word. What follows an input awaits nothing.
+abbrev pub IsReady : Piece → World → List Item → Type 0
+IsReady (puts_out o v) x rest = eval x.store o.value ≡ word v
+IsReady (takes_in i) x rest = AwaitsNothing rest
+
 module _ (g : Setting) (r : Runner) where
   -- the runner's thread is at an index with these registers
   abbrev pub IsAt : ThreadView → ℕ → Regs → Type 0
@@ -412,35 +444,19 @@ module _ (g : Setting) (r : Runner) where
   TakesSteps c side pos acts P pc regs =
       ActsAll (home g r) r.thread (end_place g r c side) (running r.tie pc regs) pos acts P pc regs
 
-  -- The thread is at the first step of an output's protocol, with the value's word.
-  pub record Offers (j : ℕ) (y : ThreadView) : Type 0 where
-    pub output : kernel.Output
+  -- The thread is at the first step of a piece of code on a channel; behind the last one follows what is left to the branch.
+  pub record Communicates (piece : Piece) (j : ℕ) (y : ThreadView) : Type 0 where
     pub rest : List Item
-    pub on : IsOnChannel output.resource
-    pub value : ℕ
-    pub value_is : eval y.world.store output.value ≡ word value
+    pub on : IsOnChannel (resource_of piece)
+    pub ready : IsReady piece y.world rest
     pub no_hand : y.hand ≡ None
     pub pc : ℕ
     pub regs : Regs
     pub here : IsAt y pc regs
-    pub steps : TakesSteps on.channel on.side output.pos (output_acts value true) (IsBehind rest j) pc regs
-    pub fits : ItemsFit g r (does (kernel.output output) ∷ rest)
-    pub has : Has (does (kernel.output output) ∷ rest) y
-
-  -- The thread is at the first step of an input's protocol, by which the word comes to r0.
-  pub record TakesIn (j : ℕ) (y : ThreadView) : Type 0 where
-    pub input : kernel.Input
-    pub rest : List Item
-    pub on : IsOnChannel input.resource
-    pub no_hand : y.hand ≡ None
-    pub pc : ℕ
-    pub regs : Regs
-    pub here : IsAt y pc regs
-    pub steps : TakesSteps on.channel on.side input.pos (input_acts R0 true)
-        (λ index last. IsBehind (storing input.target last.r0 rest) j index last) pc regs
-    pub awaits_nothing : AwaitsNothing rest
-    pub fits : ItemsFit g r (does (kernel.input input) ∷ rest)
-    pub has : Has (does (kernel.input input) ∷ rest) y
+    pub steps : TakesSteps on.channel on.side (pos_of piece) (piece_acts piece)
+        (λ index last. IsBehind (left_behind piece rest last) j index last) pc regs
+    pub fits : ItemsFit g r (does (statement_of piece) ∷ rest)
+    pub has : Has (does (statement_of piece) ∷ rest) y
 
   -- The thread is inside a transfer, and takes the steps that are left of it; behind them follows what is left to the branch.
   pub record InTransfer (transfer : Transfer) (items : List Item) (j : ℕ) (z : ThreadView) : Type 0 where
@@ -469,8 +485,7 @@ module _ (g : Setting) (r : Runner) where
     frees : Frees y → Turn j y
     waits_tied : Waits y → Turn j y
     begins : Begins j y → Turn j y
-    offers : Offers j y → Turn j y
-    takes_in : TakesIn j y → Turn j y
+    communicates : (piece : Piece) → Communicates piece j y → Turn j y
 
   -- whatever the others do before it
   abbrev pub Turns : ℕ → ThreadView → Type 0
