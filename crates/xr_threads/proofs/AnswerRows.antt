@@ -25,7 +25,7 @@ use Rattle.xr_threads.specs.Roles.{Roles, used_by}
 use Rattle.xr_threads.specs.Runners.{Runner, Setting, footprint_of, home, shrunk}
 use Rattle.xr_threads.specs.ThreadViews.{ThreadView, running}
 use Rattle.xr_threads.specs.Standing.{IfTrue, IsAtRest, Stand, Standing, StandsWith, none_rests}
-use Rattle.xr_threads.specs.Transfers.{StopsIn, all_but_first}
+use Rattle.xr_threads.specs.Transfers.{StopsIn, all_but_first, in_phase}
 use Rattle.xr_threads.specs.Turns.{Errs, InTransfer, IsBehind, IsNext, Runs, cost, is_watching}
 use Rattle.xr_threads.specs.Wired.{AreSidesOn, IsLine, boxes_in}
 use Rattle.xr_threads.proofs.ChannelBoxes.{line_boxed, line_parcels}
@@ -34,7 +34,7 @@ use Rattle.xr_threads.proofs.EndRows.{AtEnd, Goal, acts_row, boxes_taken, checks
 use Rattle.xr_threads.proofs.EndSteps as step
 use Rattle.xr_threads.proofs.EndSteps.{gone_on}
 use Rattle.xr_threads.proofs.Evaluations.{err_acts}
-use Rattle.xr_threads.proofs.InTransfers.{IsFollowed, followed, in_phase, line_is, moves_out, on_core, own_line, pauses, spot_is}
+use Rattle.xr_threads.proofs.InTransfers.{IsFollowed, followed, line_is, moves_out, on_core, own_line, pauses, spot_is}
 use Rattle.xr_threads.proofs.Lines.{line_known}
 use Rattle.xr_threads.proofs.Moments.{BranchAt, Moment, ThreadAt}
 use Rattle.xr_threads.proofs.OwnEvents.{rests_alone, rests_there}

@@ -26,14 +26,14 @@ use Rattle.xl_image.specs.Images.{pair_of}
 use Rattle.xr_threads.specs.Runners.{IsChannel, Runner, end_place, home}
 use Rattle.xr_threads.specs.Standing.{StandsWith, none_rests}
 use Rattle.xr_threads.specs.ThreadViews.{ThreadView, running}
-use Rattle.xr_threads.specs.Transfers.{Transfer}
+use Rattle.xr_threads.specs.Transfers.{Transfer, in_phase}
 use Rattle.xr_threads.specs.Turns.{cost}
 use Rattle.xr_threads.specs.Wired.{AreSidesOn, HasAlone, IsLine, boxes_in}
 use Rattle.xr_threads.proofs.ChannelBoxes.{line_boxed, line_parcels}
 use Rattle.xr_threads.proofs.ChannelEnds as ends
 use Rattle.xr_threads.proofs.ChannelEnds.{acts_there, end, end_is, left_local}
 use Rattle.xr_threads.proofs.EndSteps as step
-use Rattle.xr_threads.proofs.InTransfers.{IsFollowed, followed, goes_on_so, in_phase, is_in, line_is, moves_on, moves_out, on_core, own_line, pauses, spot_is}
+use Rattle.xr_threads.proofs.InTransfers.{IsFollowed, followed, goes_on_so, is_in, line_is, moves_on, moves_out, on_core, own_line, pauses, spot_is}
 use Rattle.xr_threads.proofs.Lines.{line_known}
 use Rattle.xr_threads.proofs.Moments.{BranchAt, Moment, ThreadAt}
 use Rattle.xr_threads.proofs.OwnTransfers as own

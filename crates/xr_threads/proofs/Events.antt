@@ -26,14 +26,14 @@ use Rattle.xr_threads.specs.Roles.{HandFits, Role, Roles, got_by, unused, used_b
 use Rattle.xr_threads.specs.Runners.{Setting, Runner, footprint_of, home}
 use Rattle.xr_threads.specs.ThreadViews.{IsSilentStep, LeadsIn, Rely, ThreadView, giving_back}
 use Rattle.xr_threads.specs.Standing.{EventsAre, HasEnded, HasThread, Stand, Standing, Stands, StandsBy, StandsWith, ThreadIs, none_rests}
-use Rattle.xr_threads.specs.Transfers.{StopsIn, Transfer, steps_left}
+use Rattle.xr_threads.specs.Transfers.{StopsIn, Transfer, steps_left, in_phase}
 use Rattle.xr_threads.specs.Turns.{Communicates, Errs, Frees, GivesBack, Goes, InTransfer, IsFree, IsWaitingTied, Joins, JoinsAt, Piece, Turn, Turns, Waits, begins, communicates, cost, errs, frees, goes_on, pauses, puts_out, takes_in, waits_tied}
 use Rattle.xr_threads.proofs.AnswerRows.{answer_followed}
 use Rattle.xr_threads.proofs.Begun as begun
 use Rattle.xr_threads.proofs.Begun.{begins_followed}
 use Rattle.xr_threads.proofs.Hands.{hand_sync, silent_followed}
 use Rattle.xr_threads.proofs.InTransfers as rows
-use Rattle.xr_threads.proofs.InTransfers.{IsFollowed, followed, in_phase}
+use Rattle.xr_threads.proofs.InTransfers.{IsFollowed, followed}
 use Rattle.xr_threads.proofs.InputRows.{input_followed}
 use Rattle.xr_threads.proofs.Joined as joined
 use Rattle.xr_threads.proofs.Joined.{joins_followed}
@@ -294,7 +294,10 @@ module _ (moment : Moment none_rests)
     by_transfer running None out (inr (inl (j, few, h))) e = by_resuming running out j few h e
     by_transfer running None out (inr (inr h)) e = absurd h
     by_transfer running (Some transfer) its (j, few, h) e =
-        in_transfer h.no_hand running transfer.channel transfer.side transfer.phase its j few (subst (λ k. InTransfer g r transfer branch.items j (record { core = a; world = x.state; hand = k })) h.no_hand h) e
+        let on_time : transfer ≡ in_phase transfer.channel transfer.side transfer.phase = ap (λ l. record transfer { late = l }) h.on_time in
+        let h' = subst (λ k. InTransfer g r transfer branch.items j (record { core = a; world = x.state; hand = k })) h.no_hand h in
+        in_transfer h.no_hand running transfer.channel transfer.side transfer.phase (its ∙ ap Some on_time) j few
+        (subst (λ k. InTransfer g r k branch.items j (alone h.no_hand)) on_time h') e
 
     by_mode : (mode : Mode) → branch.mode ≡ mode → StandsBy g r false branch.items mode stand.left now → Leaves (slot (home g r) a r.thread) → Goal
     by_mode runs is_running h e = by_transfer is_running r.transfer refl h e

@@ -22,7 +22,7 @@ use Rattle.xr_threads.specs.Roles.{Roles, empty, used_by}
 use Rattle.xr_threads.specs.Runners.{Runner, Setting, home}
 use Rattle.xr_threads.specs.ThreadViews.{ThreadView, running}
 use Rattle.xr_threads.specs.Standing.{EventsAre, Stand, Standing, StandsBy, StandsWith, ThreadIs, none_rests}
-use Rattle.xr_threads.specs.Transfers.{Transfer}
+use Rattle.xr_threads.specs.Transfers.{Transfer, in_phase}
 use Rattle.xr_threads.specs.Turns.{is_watching}
 use Rattle.xr_threads.specs.Wired.{AreSidesOn, AreWired, HasAlone, IsLine, IsTransferring}
 use Rattle.xr_threads.proofs.Advances.{advances, watched_next, who_next}
@@ -44,10 +44,6 @@ pub data IsFollowed (g : Setting) (who : Roles) (w : Watched) (x : Told (of_kern
       stepped (home g r) w.machine r.core r.thread a did ≡ Some (record { cores = slice_set w.machine.cores r.core left; links = w.machine.links; trace = noted w.machine.trace made }) →
       Follows g may_rest who w x (watched_after w (Step c t) (record { cores = slice_set w.machine.cores c left; links = w.machine.links; trace = noted w.machine.trace made })) →
       IsFollowed g who w x c t r a did
-
--- a side of a channel, in a phase
-abbrev pub in_phase : (channel : ℕ) → Side → Phase → Transfer
-in_phase channel side phase = record { channel = channel; side = side; phase = phase }
 
 module _ (g : Setting) (may_rest : (core thread : ℕ) → Bool) (who : Roles) (w : Watched) (x : Told (of_kernel g.program)) (st : Standing g may_rest who w x)
     (c t : ℕ) (r : Runner) (hand : Option Hand) (runs_r : who c t ≡ used_by r hand) (channel : ℕ) (side : Side) (phase : Phase) (its : r.transfer ≡ Some (in_phase channel side phase)) where

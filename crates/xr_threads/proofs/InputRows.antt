@@ -36,7 +36,7 @@ use Rattle.xr_threads.specs.Roles.{Roles, used_by}
 use Rattle.xr_threads.specs.Runners.{IsChannel, Runner, Setting, footprint_of, home, shrunk}
 use Rattle.xr_threads.specs.ThreadViews.{ThreadView, running}
 use Rattle.xr_threads.specs.Standing.{Stand, Standing, StandsWith, none_rests}
-use Rattle.xr_threads.specs.Transfers.{AwaitsNothing, StopsIn, Transfer}
+use Rattle.xr_threads.specs.Transfers.{AwaitsNothing, StopsIn, Transfer, in_phase}
 use Rattle.xr_threads.specs.Turns.{Communicates, Errs, Has, InTransfer, IsNext, Runs, cost, is_watching, takes_in}
 use Rattle.xr_threads.specs.Wired.{AreSidesOn, HasAlone, IsLine, boxes_in}
 use Rattle.xr_threads.proofs.ChannelBoxes.{line_boxed, line_parcels}
@@ -45,7 +45,7 @@ use Rattle.xr_threads.proofs.EndRows.{AtEnd, Goal, acts_row, answered_there, beg
 use Rattle.xr_threads.proofs.EndSteps as step
 use Rattle.xr_threads.proofs.EndSteps.{gone_on}
 use Rattle.xr_threads.proofs.Evaluations.{err_acts}
-use Rattle.xr_threads.proofs.InTransfers.{IsFollowed, followed, in_phase, pauses}
+use Rattle.xr_threads.proofs.InTransfers.{IsFollowed, followed, pauses}
 use Rattle.xr_threads.proofs.Moments.{BranchAt, Moment, ThreadAt}
 use Rattle.xr_threads.proofs.OwnTransfers as own
 use Rattle.xr_threads.proofs.OwnTransfers.{ActsAtEnd, alone_still, behind, does_so, has_behind, left, less}
@@ -160,6 +160,7 @@ module _ {moment : Moment none_rests} {thread_at : ThreadAt moment None} (branch
       inside : InTransfer g r transfer items j (behind does_input es)
       inside = record {
         pos = i.pos;
+        on_time = refl;
         goes_with = nothing_awaited_behind;
         stands_in = h.on.stands_in;
         no_hand = refl;

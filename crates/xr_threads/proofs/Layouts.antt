@@ -149,6 +149,7 @@ module _ (g : Setting) (r : Runner) where
   pub transfer_stable : (transfer : Transfer) (items : List Item) (j : ℕ) → IsStable g r (InTransfer g r transfer items j)
   transfer_stable transfer items j z y k h = record {
     pos = h.pos;
+    on_time = h.on_time;
     goes_with = h.goes_with;
     stands_in = h.stands_in;
     no_hand = k.hand ∙ h.no_hand;

@@ -29,7 +29,7 @@ use Rattle.xr_threads.specs.Roles.{Roles, used_by}
 use Rattle.xr_threads.specs.Runners.{IsChannel, Runner, Setting, footprint_of, home, shrunk}
 use Rattle.xr_threads.specs.ThreadViews.{ThreadView, running}
 use Rattle.xr_threads.specs.Standing.{Stand, Standing, StandsWith, none_rests}
-use Rattle.xr_threads.specs.Transfers.{Transfer}
+use Rattle.xr_threads.specs.Transfers.{Transfer, in_phase}
 use Rattle.xr_threads.specs.Turns.{Communicates, Has, InTransfer, IsBehind, IsNext, Runs, cost, puts_out}
 use Rattle.xr_threads.specs.Wired.{AreSidesOn, HasAlone, IsLine, boxes_in}
 use Rattle.xr_threads.proofs.ChannelBoxes.{line_boxed, line_parcels}
@@ -37,7 +37,7 @@ use Rattle.xr_threads.proofs.ChannelWorlds.{offered, offers_word}
 use Rattle.xr_threads.proofs.EndRows.{AtEnd, Goal, acts_row, begins_there, boxes_put, near_end, put_there, sends_row, stays_in}
 use Rattle.xr_threads.proofs.EndSteps as step
 use Rattle.xr_threads.proofs.EndSteps.{gone_on}
-use Rattle.xr_threads.proofs.InTransfers.{IsFollowed, followed, in_phase, pauses}
+use Rattle.xr_threads.proofs.InTransfers.{IsFollowed, followed, pauses}
 use Rattle.xr_threads.proofs.Moments.{BranchAt, Moment, ThreadAt}
 use Rattle.xr_threads.proofs.OwnTransfers as own
 use Rattle.xr_threads.proofs.OwnTransfers.{ActsAtEnd, alone_still, behind, does_so, has_behind, less}
@@ -119,6 +119,7 @@ module _ {moment : Moment none_rests} {thread_at : ThreadAt moment None} (branch
     inside : InTransfer g r transfer items j (behind does_offer es)
     inside = record {
       pos = o.pos;
+      on_time = refl;
       goes_with = (h.rest, refl);
       stands_in = h.on.stands_in;
       no_hand = refl;

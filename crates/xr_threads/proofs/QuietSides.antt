@@ -12,7 +12,7 @@ use Rattle.xs_instr.specs.declared.state.Token.{Token}
 use Rattle.xs_instr.specs.Ends.{NotYet, control_token, take_word}
 use Rattle.xs_instr.specs.Rows.{gets_with, goes_with, put_ends}
 use Rattle.xc_meaning.specs.States.Branches.{Branch, Mode, ended, erred, runs, waits}
-use Rattle.xc_meaning.specs.States.Channels.{Inboxes, Side}
+use Rattle.xc_meaning.specs.States.Channels.{Inboxes, Side, other_side}
 use Rattle.xc_meaning.specs.States.Items.{Item}
 use Rattle.xl_chan.specs.Protocols as protocol
 use Rattle.xl_chan.specs.Protocols.{Act, Acts, sends, takes_word}
@@ -206,6 +206,6 @@ module _ (moment : Moment none_rests)
   pub each_stuck : (line channel : ℕ) (side : Side) → IsLine g.program line channel → IsStuck line channel side
   each_stuck line channel side is_line = by (st.wired.stances line channel side is_line)
     where
-      by : Stance who channel side (ghosts.spots line side) → IsStuck line channel side
-      by (in_piece d u i e) = stuck_of line channel side is_line d u i
-      by (at_rest nobody e) = record { phase = between; plain = tt; spot_is = e; stuck = inr (λ go. none_between _ _ _ (ap (λ (s : Spot). s.phase) e) go) }
+      by : Stance g who channel side (ghosts.spots line side) (ghosts.late line (other_side side)) → IsStuck line channel side
+      by (in_piece d u i on_core e late) = stuck_of line channel side is_line d u i
+      by (at_rest nobody e late) = record { phase = between; plain = tt; spot_is = e; stuck = inr (λ go. none_between _ _ _ (ap (λ (s : Spot). s.phase) e) go) }

@@ -406,6 +406,7 @@ module _ (g : Setting) (r : Runner) (items : List Item) (less : IsWithin (footpr
   pub transfer_shrinks : (transfer : Transfer) (j : ℕ) (z : ThreadView) → InTransfer g r transfer items j z → InTransfer g (shrunk r items) transfer items j z
   transfer_shrinks transfer j z h = record {
     pos = h.pos;
+    on_time = h.on_time;
     goes_with = h.goes_with;
     stands_in = h.stands_in;
     no_hand = h.no_hand;

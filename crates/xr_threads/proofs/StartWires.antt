@@ -83,6 +83,6 @@ module _ (g : Setting) (who : Roles) (is : IsImageOf g who) where
     long = as_many g.program.channels;
     ends = λ c a e. let d = set_cores_are who g.image c a e in ap (λ (i : CoreState). length i.ends) d.1 ∙ length-replicate (parts_in g.image.cores c).ends boot_end;
     listed = λ core thread c side h. absurd (none_transfers core thread c side h);
-    stances = λ line c side at. at_rest (λ core thread h. none_transfers core thread c side h) refl;
+    stances = λ line c side at. at_rest (λ core thread h. none_transfers core thread c side h) refl refl;
     one = λ core thread core' thread' c side h k. absurd (none_transfers core thread c side h);
   }

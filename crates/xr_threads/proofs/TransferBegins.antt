@@ -16,9 +16,9 @@ use Rattle.xr_threads.specs.Images.{IsImageOf}
 use Rattle.xr_threads.specs.Roles.{Roles, used_by}
 use Rattle.xr_threads.specs.Runners.{IsChannel, Runner, Setting}
 use Rattle.xr_threads.specs.Standing.{Standing}
+use Rattle.xr_threads.specs.Transfers.{in_phase}
 use Rattle.xr_threads.specs.Wired.{AreSidesOn, HasAlone, IsLine, IsTransferring}
 use Rattle.xr_threads.proofs.Alone.{alone_begins, alone_excludes}
-use Rattle.xr_threads.proofs.InTransfers.{in_phase}
 use Rattle.xr_threads.proofs.Moments.{Moment}
 use Rattle.xr_threads.proofs.Moves.{same_runner, works_at}
 use Rattle.xr_threads.proofs.WiredMoves.{Moves}

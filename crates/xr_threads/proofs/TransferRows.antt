@@ -26,14 +26,14 @@ use Rattle.xr_threads.specs.Roles.{Roles, used_by}
 use Rattle.xr_threads.specs.Runners.{Runner, Setting, end_place, home}
 use Rattle.xr_threads.specs.ThreadViews.{ThreadView, running}
 use Rattle.xr_threads.specs.Standing.{IfTrue, IsAtRest, Stand, Standing, StandsWith, none_rests}
-use Rattle.xr_threads.specs.Transfers.{GoesWith, Transfer, acts_left, all_but_first, items_behind, steps_left}
+use Rattle.xr_threads.specs.Transfers.{GoesWith, Transfer, acts_left, all_but_first, items_behind, steps_left, in_phase}
 use Rattle.xr_threads.specs.Turns.{Has, InTransfer, IsBehind, TakesSteps, cost}
 use Rattle.xr_threads.specs.Wired.{AreSidesOn, HasAlone, IsLine, boxes_in}
 use Rattle.xr_threads.proofs.Answers as answers
 use Rattle.xr_threads.proofs.EndRows.{AtEnd, Goal, boxes, ends_row, goes_out, goes_row, inside_there, near_end, sends_row, stays_in}
 use Rattle.xr_threads.proofs.EndSteps as step
 use Rattle.xr_threads.proofs.EndSteps.{gone_on}
-use Rattle.xr_threads.proofs.InTransfers.{IsFollowed, followed, goes_on_so, in_phase, line_is, moves_on, moves_out, on_core, own_line, pauses, spot_is}
+use Rattle.xr_threads.proofs.InTransfers.{IsFollowed, followed, goes_on_so, line_is, moves_on, moves_out, on_core, own_line, pauses, spot_is}
 use Rattle.xr_threads.proofs.Moments.{BranchAt, Moment, ThreadAt}
 use Rattle.xr_threads.proofs.OwnEvents.{rests_alone, rests_there}
 use Rattle.xr_threads.proofs.Protocols.{ack_sent, end_sent, end_taken}
@@ -80,6 +80,7 @@ module _ {moment : Moment none_rests} {thread_at : ThreadAt moment None} (branch
         few,
         record {
           pos = h.pos;
+          on_time = refl;
           goes_with = goes;
           stands_in = h.stands_in;
           no_hand = refl;

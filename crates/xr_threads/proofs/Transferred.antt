@@ -58,6 +58,7 @@ module _ (g : Setting) (r : Runner) (transfer : Option Transfer) where
   pub inside_as : (which : Transfer) (items : List Item) (j : ℕ) (z : ThreadView) → r.footprint ≡ footprint_of items → InTransfer g r which items j z → InTransfer g s which items j z
   inside_as which items j z same h = record {
     pos = h.pos;
+    on_time = h.on_time;
     goes_with = h.goes_with;
     stands_in = h.stands_in;
     no_hand = h.no_hand;

@@ -5,7 +5,7 @@ use Rattle.std.proofs.lemmas.Bool.{cases_eq, ne_eqb}
 use Rattle.std.proofs.lemmas.Option.{none-some, same_Some}
 use Rattle.xs_instr.specs.declared.state.CoreState.{CoreState}
 use Rattle.xs_instr.specs.Machine.{Machine, parts_in}
-use Rattle.xc_meaning.specs.States.Channels.{Side, first, second}
+use Rattle.xc_meaning.specs.States.Channels.{Side, first, other_side, second}
 use Rattle.xc_meaning.specs.States.Worlds.{World}
 use Rattle.xl_image.specs.Images.{pair_of}
 use Rattle.xl_par.specs.Hands.{Hand}
@@ -13,7 +13,7 @@ use Rattle.xl_plan.specs.Layout.{core_of}
 use Rattle.xr_threads.specs.Images.{AreLines}
 use Rattle.xr_threads.specs.Roles.{Roles, used_by}
 use Rattle.xr_threads.specs.Runners.{Setting, Runner}
-use Rattle.xr_threads.specs.Transfers.{Transfer}
+use Rattle.xr_threads.specs.Transfers.{Transfer, in_phase}
 use Rattle.xr_threads.specs.Wired.{AreSidesOn, AreWired, IsLine, IsTransferring, Stance, at_rest, boxes_in, in_piece}
 use Rattle.xr_threads.proofs.Moves.{same_runner}
 use Rattle.xr_threads.proofs.Seats.{role_cases, role_here, with_role}
@@ -21,6 +21,7 @@ use Rattle.xr_threads.proofs.Standing.{get_set_cases}
 use Rattle.xr_wires.specs.Balance.{Local}
 use Rattle.xr_wires.specs.Phases.{Phase, Spot, between, spot}
 use Rattle.xr_wires.specs.Wires.{Ghosts}
+use Rattle.xr_wires.proofs.Frames.{twice}
 use Rattle.xr_wires.proofs.Updates.{moved_to, pick, same_side}
 
 -- sides are the same, or not
@@ -53,6 +54,22 @@ moved_elsewhere g k side s j x ne =
     (λ (other : j ≢ k). ap (λ b. pick (b && same_side x side) s (g.spots j x)) (ne_eqb j k other))
     (cases_eq j k)
 
+-- What is late to the other side, likewise.
+
+late_here : (g : Ghosts) (k : ℕ) (side : Side) (s : Spot) → (moved_to g k side s []).late k (other_side side) ≡ []
+late_here g k first s = ap (λ b. pick (b && true) [] (g.late k second)) (eq-eqb k k refl)
+late_here g k second s = ap (λ b. pick (b && true) [] (g.late k first)) (eq-eqb k k refl)
+
+late_elsewhere : (g : Ghosts) (k : ℕ) (side : Side) (s : Spot) (j : ℕ) (x : Side) → ((j ≡ k) × (x ≡ side) → ⊥) →
+    (moved_to g k side s []).late j (other_side x) ≡ g.late j (other_side x)
+late_elsewhere g k side s j x ne =
+    ⊎_elim
+    (λ (same : j ≡ k).
+    let apart = other_sides (other_side x) (other_side side) (λ e. ne (same, sym (twice x) ∙ ap other_side e ∙ twice side)) in
+    ap (λ b. pick b [] (g.late j (other_side x))) (ap (λ b. nat_eq j k && b) apart ∙ not_both (nat_eq j k)))
+    (λ (other : j ≢ k). ap (λ b. pick (b && same_side (other_side x) (other_side side)) [] (g.late j (other_side x))) (ne_eqb j k other))
+    (cases_eq j k)
+
 -- one channel has one line, and one line one channel
 pub one_line : (g : Setting) → AreLines g → (i j c : ℕ) → IsLine g.program i c → IsLine g.program j c → i ≡ j
 one_line g lines i j c at_i at_j = (lines.wired.once i (pair_of g.program c) first j (pair_of g.program c) first (lines.line i c at_i) (lines.line j c at_j) refl).0
@@ -63,7 +80,7 @@ one_channel g line c d at_c at_d = same_Some c d (sym at_c ∙ at_d)
 -- A thread's runner is another one, which is inside a transfer on this side of the channel, or no more; only it can be inside one there.
 pub record Moves (g : Setting) (who : Roles) (c t : ℕ) (r s : Runner) (channel : ℕ) (side : Side) (phase : Phase) : Type 0 where
   pub old : (transfer : Transfer) → r.transfer ≡ Some transfer → (transfer.channel ≡ channel) × (transfer.side ≡ side)
-  pub new : (transfer : Transfer) → s.transfer ≡ Some transfer → transfer ≡ record { channel = channel; side = side; phase = phase }
+  pub new : (transfer : Transfer) → s.transfer ≡ Some transfer → transfer ≡ in_phase channel side phase
   pub over : s.transfer ≡ None → phase ≡ between
   pub mine : (d u : ℕ) → IsTransferring who d u channel side → (d ≡ c) × (u ≡ t)
 
@@ -80,7 +97,7 @@ module _ (g : Setting) (lines : AreLines g) (who : Roles) (m : Machine) (world :
 
   -- who is inside a transfer then: the thread itself, on this side; or another one that was before
   abbrev IsNow : (d u k : ℕ) → Side → Type 0
-  IsNow d u k x = (Here d u × (k ≡ channel) × (x ≡ side) × (s.transfer ≡ Some (record { channel = channel; side = side; phase = phase }))) ⊎ ((Here d u → ⊥) × IsTransferring who d u k x)
+  IsNow d u k x = (Here d u × (k ≡ channel) × (x ≡ side) × (s.transfer ≡ Some (in_phase channel side phase))) ⊎ ((Here d u → ⊥) × IsTransferring who d u k x)
 
   is_now : (d u k : ℕ) (x : Side) → IsTransferring who' d u k x → IsNow d u k x
   is_now d u k x i =
@@ -88,7 +105,7 @@ module _ (g : Setting) (lines : AreLines g) (who : Roles) (m : Machine) (world :
       (λ here.
       let same : s ≡ i.runner = same_runner s i.runner hand' i.hand (sym here.2 ∙ i.runs) in
       let is : s.transfer ≡ Some i.transfer = ap (λ (v : Runner). v.transfer) same ∙ i.is in
-      let new : i.transfer ≡ record { channel = channel; side = side; phase = phase } = moves.new i.transfer is in
+      let new : i.transfer ≡ in_phase channel side phase = moves.new i.transfer is in
       inl ((here.0, here.1), sym i.channel_is ∙ ap (λ (v : Transfer). v.channel) new, sym i.side_is ∙ ap (λ (v : Transfer). v.side) new, is ∙ ap Some new))
       (λ there.
       inr (
@@ -138,11 +155,18 @@ module _ (g : Setting) (lines : AreLines g) (who : Roles) (m : Machine) (world :
   here_is : (l : ℕ) (x : Side) → l ≡ line → x ≡ side → next.spots l x ≡ spot phase false
   here_is l x e f = ap (λ k. next.spots k x) e ∙ ap (next.spots line) f ∙ moved_here h.ghosts line side (spot phase false)
 
-  -- each side of a line stands as its thread does, or as before
-  stances : (l k : ℕ) (x : Side) → IsLine g.program l k → Stance who' k x (next.spots l x)
+  late_is : (l : ℕ) (x : Side) → l ≡ line → x ≡ side → next.late l (other_side x) ≡ []
+  late_is l x e f = ap (λ k. next.late k (other_side x)) e ∙ ap (λ y. next.late line (other_side y)) f ∙ late_here h.ghosts line side (spot phase false)
+
+  -- a side of a line then
+  abbrev Stands : (l k : ℕ) → Side → Type 0
+  Stands l k x = Stance g who' k x (next.spots l x) (next.late l (other_side x))
+
+  -- each stands as its thread does, or as before
+  stances : (l k : ℕ) (x : Side) → IsLine g.program l k → Stands l k x
   stances l k x at_l = by (cases_eq l line) (side_cases x side)
     where
-      away : ((l ≡ line) × (x ≡ side) → ⊥) → Stance who' k x (next.spots l x)
+      away : ((l ≡ line) × (x ≡ side) → ⊥) → Stands l k x
       away ne = from (h.stances l k x at_l)
         where
           on_line : k ≡ channel → l ≡ line
@@ -153,26 +177,28 @@ module _ (g : Setting) (lines : AreLines g) (who : Roles) (m : Machine) (world :
               let own = was_here k x (subst (λ v. IsTransferring who c v k x) here.1 (subst (λ v. IsTransferring who v u k x) here.0 i)) in
               ne (on_line own.0, own.1)
 
-          from : Stance who k x (h.ghosts.spots l x) → Stance who' k x (next.spots l x)
-          from (in_piece d u i e) = in_piece d u (still d u k x (not_here d u i) i) (elsewhere l x ne ∙ e)
-          from (at_rest nobody e) =
+          from : Stance g who k x (h.ghosts.spots l x) (h.ghosts.late l (other_side x)) → Stands l k x
+          from (in_piece d u i core e late) =
+              in_piece d u (still d u k x (not_here d u i) i) core (elsewhere l x ne ∙ e) (late_elsewhere h.ghosts line side (spot phase false) l x ne ∙ late)
+          from (at_rest nobody e late) =
               at_rest (λ d u i. ⊎_elim (λ own. ne (on_line own.1, own.2)) (λ other. nobody d u other.1) (is_now d u k x i)) (elsewhere l x ne ∙ e)
+              (late_elsewhere h.ghosts line side (spot phase false) l x ne ∙ late)
 
-      by : (l ≡ line) ⊎ (l ≢ line) → (x ≡ side) ⊎ (x ≢ side) → Stance who' k x (next.spots l x)
+      by : (l ≡ line) ⊎ (l ≢ line) → (x ≡ side) ⊎ (x ≢ side) → Stands l k x
       by (inl e) (inl f) = here_stands s.transfer refl
         where
           k_is : k ≡ channel
           k_is = one_channel g line k channel (subst (λ v. IsLine g.program v k) e at_l) is_line
 
-          here_stands : (o : Option Transfer) → s.transfer ≡ o → Stance who' k x (next.spots l x)
+          here_stands : (o : Option Transfer) → s.transfer ≡ o → Stands l k x
           here_stands None none =
               at_rest
               (λ d u i.
               ⊎_elim
-              (λ own. none-some (record { channel = channel; side = side; phase = phase }) (sym none ∙ own.3))
+              (λ own. none-some (in_phase channel side phase) (sym none ∙ own.3))
               (λ other. other.0 (moves.mine d u (subst (λ v. IsTransferring who d u channel v) f (subst (λ v. IsTransferring who d u v x) k_is other.1))))
               (is_now d u k x i))
-              (here_is l x e f ∙ ap (λ v. spot v false) (moves.over none))
+              (here_is l x e f ∙ ap (λ v. spot v false) (moves.over none)) (late_is l x e f)
           here_stands (Some transfer) is =
               let new = moves.new transfer is in
               in_piece c t (record {
@@ -183,7 +209,8 @@ module _ (g : Setting) (lines : AreLines g) (who : Roles) (m : Machine) (world :
                 is = is;
                 channel_is = ap (λ (v : Transfer). v.channel) new ∙ sym k_is;
                 side_is = ap (λ (v : Transfer). v.side) new ∙ sym f;
-              }) (here_is l x e f ∙ ap (λ (v : Transfer). spot v.phase false) (sym new))
+              }) (ap (λ v. core_of g.program v x) k_is ∙ on_core x) (here_is l x e f ∙ ap (λ (v : Transfer). spot v.phase false) (sym new))
+                  (late_is l x e f ∙ ap (λ (v : Transfer). v.late) (sym new))
       by (inl e) (inr ne) = away (λ both. ne both.1)
       by (inr ne) f = away (λ both. ne both.0)
 

@@ -7,7 +7,7 @@ use Rattle.xs_instr.specs.declared.image.Pair.{Pair}
 use Rattle.xs_instr.specs.declared.state.CoreState.{CoreState}
 use Rattle.xs_instr.specs.Ends.{Peer}
 use Rattle.xs_instr.specs.Machine.{Machine, no_links, parts_in}
-use Rattle.xc_meaning.specs.States.Channels.{Inboxes, Side, first, second, other_side}
+use Rattle.xc_meaning.specs.States.Channels.{Inboxes, Parcel, Side, first, second, other_side}
 use Rattle.xc_meaning.specs.States.Worlds.{World}
 use Rattle.xl_par.specs.Hands.{Hand}
 use Rattle.xr_wires.specs.Balance.{Balanced, IsEight, Local, credits_in}
@@ -76,9 +76,9 @@ module _ (g : Setting) (who who' : Roles) (as_before : TransfersAsBefore who who
       let k = as_before.still d u h.runner h.hand h.transfer h.runs h.is in
       record { runner = k.0; hand = k.1; runs = k.2; transfer = h.transfer; is = k.3; channel_is = h.channel_is; side_is = h.side_is }
 
-  pub stance_as : (c : ℕ) (side : Side) (at : Spot) → Stance who c side at → Stance who' c side at
-  stance_as c side at (in_piece d u i e) = in_piece d u (is_in d u c side i) e
-  stance_as c side at (at_rest nobody e) = at_rest (λ d u i. nobody d u (was_in d u c side i)) e
+  pub stance_as : (c : ℕ) (side : Side) (at : Spot) (late : List Parcel) → Stance g who c side at late → Stance g who' c side at late
+  stance_as c side at late (in_piece d u i core e l) = in_piece d u (is_in d u c side i) core e l
+  stance_as c side at late (at_rest nobody e l) = at_rest (λ d u i. nobody d u (was_in d u c side i)) e l
 
   -- the machine stands still
   pub wired_as : (m : Machine) (x y : World) → y.inboxes ≡ x.inboxes → AreWired g who m x → AreWired g who' m y
@@ -88,7 +88,7 @@ module _ (g : Setting) (who who' : Roles) (as_before : TransfersAsBefore who who
     long = ap length same ∙ h.long;
     ends = h.ends;
     listed = λ d u c side is. h.listed d u c side (was_in d u c side is);
-    stances = λ k c side on. stance_as c side (h.ghosts.spots k side) (h.stances k c side on);
+    stances = λ k c side on. stance_as c side (h.ghosts.spots k side) (h.ghosts.late k (other_side side)) (h.stances k c side on);
     one = λ d u d' u' c side is also. h.one d u d' u' c side (was_in d u c side is) (was_in d' u' c side also);
   }
 
@@ -127,17 +127,17 @@ module _ (g : Setting) (who : Roles) (m : Machine) (x : World) (h : AreWired g w
       its : IsTransferring who core thread transfer.channel transfer.side
       its = record { runner = r; hand = hand; runs = runs; transfer = transfer; is = is; channel_is = refl; side_is = refl }
 
-      by : Stance who transfer.channel transfer.side (h.ghosts.spots at transfer.side) → h.ghosts.spots at transfer.side ≡ spot transfer.phase false
-      by (in_piece d u i e) =
+      by : Stance g who transfer.channel transfer.side (h.ghosts.spots at transfer.side) (h.ghosts.late at (other_side transfer.side)) → h.ghosts.spots at transfer.side ≡ spot transfer.phase false
+      by (in_piece d u i on_core e late) =
           let one = h.one core thread d u transfer.channel transfer.side its i in
           let runner : r ≡ i.runner = same_runner r i.runner hand i.hand (sym runs ∙ sym (ap (λ k. who k u) one.0 ∙ ap (who core) one.1) ∙ i.runs) in
           let same : transfer ≡ i.transfer = same_Some transfer i.transfer (sym is ∙ ap (λ (k : Runner). k.transfer) runner ∙ i.is) in
           e ∙ ap (λ (k : Transfer). spot k.phase false) (sym same)
-      by (at_rest nobody e) = absurd (nobody core thread its)
+      by (at_rest nobody e late) = absurd (nobody core thread its)
 
   pub wired_between : (at c : ℕ) (side : Side) → IsLine g.program at c → ((core thread : ℕ) → IsTransferring who core thread c side → ⊥) → h.ghosts.spots at side ≡ spot between false
   wired_between at c side on nobody = by (h.stances at c side on)
     where
-      by : Stance who c side (h.ghosts.spots at side) → h.ghosts.spots at side ≡ spot between false
-      by (in_piece d u i e) = absurd (nobody d u i)
-      by (at_rest none e) = e
+      by : Stance g who c side (h.ghosts.spots at side) (h.ghosts.late at (other_side side)) → h.ghosts.spots at side ≡ spot between false
+      by (in_piece d u i on_core e late) = absurd (nobody d u i)
+      by (at_rest none e late) = e

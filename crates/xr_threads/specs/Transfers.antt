@@ -2,7 +2,7 @@
 use Rattle.std.specs.Prelude.{◌≡◌, ℕ, true, List, [], ◌∷◌, Option, Some, None, length}
 use Rattle.xw_words.specs.declared.pos.Pos.{Pos}
 use Rattle.xs_instr.specs.Ends.{control_token}
-use Rattle.xc_meaning.specs.States.Channels.{Side}
+use Rattle.xc_meaning.specs.States.Channels.{Parcel, Side}
 use Rattle.xc_meaning.specs.States.Items.{Item, awaits, chooses}
 use Rattle.xl_chan.specs.Protocols.{ACK, Act, input_ends, output_ends, sends, takes}
 use Rattle.xr_wires.specs.Phases.{Phase, awaits_ack, between, checks_end, closes, offers, opens, sends_ack, sends_end, streams, was_closed}
@@ -11,6 +11,12 @@ pub record Transfer : Type 0 where
   pub channel : ℕ
   pub side : Side
   pub phase : Phase
+  -- what its branch has still to put in the other side's inbox of what the thread has sent, since that is on a link
+  pub late : List Parcel
+
+-- with nothing late, as always within a core
+abbrev pub in_phase : (channel : ℕ) → Side → Phase → Transfer
+in_phase channel side phase = record { channel = channel; side = side; phase = phase; late = [] }
 
 -- the steps of the protocol that are left to a thread that has begun it
 abbrev pub acts_left : Phase → List Act

@@ -458,9 +458,10 @@ module _ (g : Setting) (r : Runner) where
     pub fits : ItemsFit g r (does (statement_of piece) ∷ rest)
     pub has : Has (does (statement_of piece) ∷ rest) y
 
-  -- The thread is inside a transfer, and takes the steps that are left of it; behind them follows what is left to the branch.
+  -- The thread is inside a transfer, of which nothing is late, and takes the steps that are left of it; behind them follows what is left to the branch.
   pub record InTransfer (transfer : Transfer) (items : List Item) (j : ℕ) (z : ThreadView) : Type 0 where
     pub pos : Pos
+    pub on_time : transfer.late ≡ []
     pub goes_with : GoesWith transfer.phase transfer.channel pos items
     pub stands_in : slice_index_or r.sides transfer.channel None ≡ Some transfer.side
     pub no_hand : z.hand ≡ None

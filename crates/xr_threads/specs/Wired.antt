@@ -1,12 +1,12 @@
 -- What stands between the sides of all channels, by the transfers that threads have begun.
-use Rattle.std.specs.Prelude.{◌≡◌, ◌⊎◌, ℕ, false, IsTrue, List, map, length, Option, Some, slice_get, slice_index_or}
+use Rattle.std.specs.Prelude.{◌≡◌, ◌⊎◌, ℕ, false, IsTrue, List, [], map, length, Option, Some, slice_get, slice_index_or}
 use Rattle.xs_instr.specs.declared.state.CoreState.{CoreState}
 use Rattle.xs_instr.specs.Machine.{Machine, parts_in}
 use Rattle.xc_kernel.specs.Plain as kernel
 use Rattle.xc_kernel.specs.Things.{channel}
 use Rattle.xc_laws.specs.Tree.{Above}
 use Rattle.xc_meaning.specs.States.Branches.{Branch, side_of}
-use Rattle.xc_meaning.specs.States.Channels.{Inboxes, Side, no_parcels, other_side}
+use Rattle.xc_meaning.specs.States.Channels.{Inboxes, Parcel, Side, no_parcels, other_side}
 use Rattle.xc_meaning.specs.States.Worlds.{World}
 use Rattle.xc_meaning.specs.Uses.{by_items}
 use Rattle.xl_par.specs.Hands.{Hand}
@@ -41,10 +41,12 @@ pub record IsTransferring (who : Roles) (core thread : ℕ) (c : ℕ) (side : Si
   pub channel_is : transfer.channel ≡ c
   pub side_is : transfer.side ≡ side
 
--- How a side of a channel stands: in the phase of the transfer that a thread is in there, or in no piece, where none is.
-pub data Stance (who : Roles) (c : ℕ) (side : Side) (at : Spot) : Type 0 where
-  in_piece : (core thread : ℕ) (i : IsTransferring who core thread c side) → at ≡ spot i.transfer.phase false → Stance who c side at
-  at_rest : ((core thread : ℕ) → IsTransferring who core thread c side → ⊥) → at ≡ spot between false → Stance who c side at
+-- How a side of a channel stands, and what is late to the other side: as the transfer says that a thread on the side's core is in there; or, where none is,
+-- in no piece, with nothing late.
+pub data Stance (g : Setting) (who : Roles) (c : ℕ) (side : Side) (at : Spot) (late : List Parcel) : Type 0 where
+  in_piece : (core thread : ℕ) (i : IsTransferring who core thread c side) → core_of g.program c side ≡ core →
+      at ≡ spot i.transfer.phase false → late ≡ i.transfer.late → Stance g who c side at late
+  at_rest : ((core thread : ℕ) → IsTransferring who core thread c side → ⊥) → at ≡ spot between false → late ≡ [] → Stance g who c side at late
 
 -- The one relation of all channels: a side of a channel stands where the thread does that has begun a transfer on it, and else in no piece; and
 -- there is at most one such thread. It is on the core of the channel's sides.
@@ -55,7 +57,8 @@ pub record AreWired (g : Setting) (who : Roles) (m : Machine) (x : World) : Type
   pub ends : (c : ℕ) (a : CoreState) → slice_get m.cores c ≡ Some a → length a.ends ≡ (parts_in g.image.cores c).ends
   pub listed : (core thread c : ℕ) (side : Side) → IsTransferring who core thread c side →
       (line : ℕ) × IsLine g.program line c × AreSidesOn g.program c core
-  pub stances : (line c : ℕ) (side : Side) → IsLine g.program line c → Stance who c side (ghosts.spots line side)
+  pub stances : (line c : ℕ) (side : Side) → IsLine g.program line c →
+      Stance g who c side (ghosts.spots line side) (ghosts.late line (other_side side))
   pub one : (core thread core' thread' c : ℕ) (side : Side) → IsTransferring who core thread c side → IsTransferring who core' thread' c side →
       (core' ≡ core) × (thread' ≡ thread)
 
