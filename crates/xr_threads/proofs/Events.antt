@@ -6,6 +6,7 @@ use Rattle.xs_instr.specs.declared.image.Home.{Home}
 use Rattle.xs_instr.specs.declared.state.CoreState.{CoreState}
 use Rattle.xs_instr.specs.declared.state.Mode.{Mode as ThreadMode}
 use Rattle.xs_instr.specs.declared.state.Mode.TheVariants.{Running, Trapped, Unused, Waiting}
+use Rattle.xs_instr.specs.declared.state.Sent.{Sent}
 use Rattle.xs_instr.specs.declared.state.Thread.{Thread}
 use Rattle.xs_instr.specs.declared.trace.Record.{Record}
 use Rattle.xs_instr.specs.Did.{Did, Idle, Paused}
@@ -33,7 +34,7 @@ use Rattle.xr_threads.proofs.Begun as begun
 use Rattle.xr_threads.proofs.Begun.{begins_followed}
 use Rattle.xr_threads.proofs.Hands.{hand_sync, silent_followed}
 use Rattle.xr_threads.proofs.InTransfers as rows
-use Rattle.xr_threads.proofs.InTransfers.{IsFollowed, followed}
+use Rattle.xr_threads.proofs.InTransfers.{IsFollowed, behind_step, followed}
 use Rattle.xr_threads.proofs.InputRows.{input_followed}
 use Rattle.xr_threads.proofs.Joined as joined
 use Rattle.xr_threads.proofs.Joined.{joins_followed}
@@ -134,17 +135,23 @@ module _ (moment : Moment none_rests)
     here = kept_now moment c t a r hand at_c runs_r
 
     -- the machine is the one behind such a step
-    goal_of : (may_rest : (core thread : ℕ) → Bool) → ((d u : ℕ) → d ≢ c → may_rest d u ≡ false) → (b : CoreState) (made : Option Record) → stepped (home g r) w.machine r.core r.thread a (slot (home g r) a r.thread) ≡ Some (record { cores = slice_set w.machine.cores r.core b; links = w.machine.links; trace = noted w.machine.trace made }) →
-        Leaves (slot (home g r) a r.thread) → Follows g may_rest who w x (watched_after w (Step c t) (record { cores = slice_set w.machine.cores c b; links = w.machine.links; trace = noted w.machine.trace made })) → Goal
-    goal_of may_rest elsewhere b made is_step e h =
-        let left_is : Some (record { cores = slice_set w.machine.cores c b; links = w.machine.links; trace = noted w.machine.trace made }) ≡ Some m =
-        ap (λ k. Some (record { cores = slice_set w.machine.cores k b; links = w.machine.links; trace = noted w.machine.trace made })) (sym core_is) ∙ sym is_step ∙ e in
-        record { core = c; there = st.roles.there c t r hand runs_r; may_rest = may_rest; elsewhere = elsewhere; follows = subst (λ n. Follows g may_rest who w x (watched_after w (Step c t) n)) (same_Some _ m left_is) h }
+    goal_of : (may_rest : (core thread : ℕ) → Bool) → ((d u : ℕ) → d ≢ c → may_rest d u ≡ false) → (b : CoreState) (made : Option Record) (sent : List Sent) →
+        stepped (home g r) w.machine r.core r.thread a (slot (home g r) a r.thread) ≡ Some (behind_step w.machine r.core b made sent) →
+        Leaves (slot (home g r) a r.thread) → Follows g may_rest who w x (watched_after w (Step c t) (behind_step w.machine c b made sent)) → Goal
+    goal_of may_rest elsewhere b made sent is_step e h =
+        let left_is : Some (behind_step w.machine c b made sent) ≡ Some m = ap (λ k. Some (behind_step w.machine k b made sent)) (sym core_is) ∙ sym is_step ∙ e in
+        record {
+          core = c;
+          there = st.roles.there c t r hand runs_r;
+          may_rest = may_rest;
+          elsewhere = elsewhere;
+          follows = subst (λ n. Follows g may_rest who w x (watched_after w (Step c t) n)) (same_Some _ m left_is) h;
+        }
 
     -- a slot that the program follows
     by_followed : IsFollowed g who w x c t r a (slot (home g r) a r.thread) → Leaves (slot (home g r) a r.thread) → Goal
     by_followed (rows.pauses p) e = no_step (home g r) w.machine m r.core r.thread a (slot (home g r) a r.thread) (inr p) e
-    by_followed (followed may_rest elsewhere b made is_step h) e = goal_of may_rest elsewhere b made is_step e h
+    by_followed (followed may_rest elsewhere b made sent is_step h) e = goal_of may_rest elsewhere b made sent is_step e h
 
     -- the thread goes on, errs or ends, or takes a step of a transfer, with nothing in hand
     module _ (none : hand ≡ None) where
@@ -186,17 +193,17 @@ module _ (moment : Moment none_rests)
 
       go_goal : r.transfer ≡ None → (j : ℕ) → j ≤ stand.left → Goes g r j alone → Leaves (slot (home g r) a r.thread) → Goal
       go_goal outside j few h e =
-          goal_of (rests_alone c t) (λ d u ne. alone_elsewhere c (nat_eq u t) d ne) h.left h.made (ap (stepped (home g r) w.machine r.core r.thread a) h.made_is) e
+          goal_of (rests_alone c t) (λ d u ne. alone_elsewhere c (nat_eq u t) d ne) h.left h.made [] (ap (stepped (home g r) w.machine r.core r.thread a) h.made_is) e
           (goes_answered here_alone outside j few h)
 
       free_goal : r.transfer ≡ None → Frees g r alone → Leaves (slot (home g r) a r.thread) → Goal
       free_goal outside h e =
-          goal_of none_rests (λ d u ne. refl) h.left None (ap (stepped (home g r) w.machine r.core r.thread a) h.made_is) e
+          goal_of none_rests (λ d u ne. refl) h.left None [] (ap (stepped (home g r) w.machine r.core r.thread a) h.made_is) e
           (frees_answered here_alone outside h)
 
       wait_goal : r.transfer ≡ None → Waits g r alone → Leaves (slot (home g r) a r.thread) → Goal
       wait_goal outside h e =
-          goal_of none_rests (λ d u ne. refl) h.left None (ap (stepped (home g r) w.machine r.core r.thread a) h.made_is) e
+          goal_of none_rests (λ d u ne. refl) h.left None [] (ap (stepped (home g r) w.machine r.core r.thread a) h.made_is) e
           (waits_answered here_alone outside h)
 
     -- the turn at an item's own instruction
@@ -211,14 +218,14 @@ module _ (moment : Moment none_rests)
     at_turn on out j few (begins h) e =
         let same : branch ≡ h.branch = same_Some branch h.branch (sym known ∙ h.does_par.known) in
         let stand' = stand_of g r false hand a x.state (w.lives c t) x.actions branch h.branch same stand in
-        goal_of (begun.rests thread_here j h) (λ d u ne. alone_elsewhere c (begun.moved thread_here j h u) d ne) (begun.left thread_here j h) None
+        goal_of (begun.rests thread_here j h) (λ d u ne. alone_elsewhere c (begun.moved thread_here j h u) d ne) (begun.left thread_here j h) None []
         (ap (stepped (home g r) w.machine r.core r.thread a) h.goes) e
         (begins_followed thread_here j h stand' out few)
 
     -- a silent step
     on_the_way : (z : ThreadView) → ((mode : ThreadMode) → mode ≡ Running → ThreadIs r.parents branch.mode mode) → ((bit : Bool) → bit ≡ false → EventsAre branch.mode branch.items bit) → IsSilentStep g r now z → (left : ℕ) → suc left ≤ stand.left → StandsBy g r false branch.items branch.mode left z → Leaves (slot (home g r) a r.thread) → Goal
     on_the_way z alive calm silent left few by e =
-        goal_of none_rests (λ d u ne. refl) z.core None (ap (stepped (home g r) w.machine r.core r.thread a) silent.made) e
+        goal_of none_rests (λ d u ne. refl) z.core None [] (ap (stepped (home g r) w.machine r.core r.thread a) silent.made) e
         (silent_followed (branch_of thread_here branch known stand) z alive calm silent left few by)
 
     -- a branch that runs
@@ -247,7 +254,7 @@ module _ (moment : Moment none_rests)
         let stand' = stand_as g r false hand (giving_back h.sync) a x.state (w.lives c t) x.actions branch in_hand stand in
         let h' = subst (λ k. GivesBack g r branch.items j (record { core = a; world = x.state; hand = k })) in_hand h in
         let thread' = thread_of moment c t a at_c r (giving_back h.sync) (runs_r ∙ ap (used_by r) in_hand) in
-        goal_of (rests_alone c t) (λ d u ne. alone_elsewhere c (nat_eq u t) d ne) (resumes.left thread' branch known running stand' out j few h') None
+        goal_of (rests_alone c t) (λ d u ne. alone_elsewhere c (nat_eq u t) d ne) (resumes.left thread' branch known running stand' out j few h') None []
         (ap (stepped (home g r) w.machine r.core r.thread a) (resumes.made_is thread' branch known running stand' out j few h')) e
         (resumes_followed thread' branch known running stand' out j few h')
 
@@ -265,7 +272,7 @@ module _ (moment : Moment none_rests)
       by_join j few h e true sync is_sync wait =
           let none : hand ≡ None = h.no_hand in
           let h' = subst (λ k. JoinsAt g r p ps j (record { core = a; world = x.state; hand = k })) none h in
-          goal_of (rests_alone c t) (λ d u ne. alone_elsewhere c (nat_eq u t) d ne) (joined.left (thread_alone none) p ps parents sync is_sync branch known over wait j (stand_alone none) few h') None
+          goal_of (rests_alone c t) (λ d u ne. alone_elsewhere c (nat_eq u t) d ne) (joined.left (thread_alone none) p ps parents sync is_sync branch known over wait j (stand_alone none) few h') None []
           (ap (stepped (home g r) w.machine r.core r.thread a) (joined.made_is (thread_alone none) p ps parents sync is_sync branch known over wait j (stand_alone none) few h')) e
           (joins_followed (thread_alone none) p ps parents sync is_sync branch known over wait j (stand_alone none) few h')
 

@@ -8,7 +8,8 @@ use Rattle.xs_instr.specs.declared.state.Mode.TheVariants.{Running}
 use Rattle.xs_instr.specs.declared.state.Regs.{Regs}
 use Rattle.xs_instr.specs.declared.trace.Record.{Record}
 use Rattle.xs_instr.specs.Did.{Did, Paused}
-use Rattle.xs_instr.specs.Machine.{Step, noted, stepped}
+use Rattle.xs_instr.specs.declared.state.Sent.{Sent}
+use Rattle.xs_instr.specs.Machine.{Machine, Step, noted, on_links, stepped}
 use Rattle.xs_instr.specs.declared.state.Thread.{Thread}
 use Rattle.xc_meaning.specs.Counts.KernelCounts.{kernel_bound}
 use Rattle.xc_meaning.specs.States.Branches.{Branch, runs, ended, erred}
@@ -36,13 +37,17 @@ use Rattle.xr_threads.proofs.WiredMoves.{Moves}
 use Rattle.xr_threads.proofs.Wiring.{wired_inside}
 use Rattle.xr_wires.specs.Phases.{Phase, between, spot}
 
--- What a thread's next slot is, and how the program follows it: the thread pauses; or the slot leaves this core and this record, and behind a
--- piece of the program's run the two sides stand so again.
+-- the machine behind a thread's step, which leaves this core, writes this down and sends that over links
+abbrev pub behind_step : Machine → (core : ℕ) → CoreState → Option Record → List Sent → Machine
+behind_step m c left made sent = record { cores = slice_set m.cores c left; links = on_links m.links c sent; trace = noted m.trace made }
+
+-- What a thread's next slot is, and how the program follows it: the thread pauses; or the slot is a step, and behind a piece of the program's run the two
+-- sides stand so again.
 pub data IsFollowed (g : Setting) (who : Roles) (w : Watched) (x : Told (of_kernel g.program)) (c t : ℕ) (r : Runner) (a : CoreState) (did : Did CoreState) : Type 0 where
   pauses : did ≡ Paused → IsFollowed g who w x c t r a did
-  followed : (may_rest : (core thread : ℕ) → Bool) → ((d u : ℕ) → d ≢ c → may_rest d u ≡ false) → (left : CoreState) (made : Option Record) →
-      stepped (home g r) w.machine r.core r.thread a did ≡ Some (record { cores = slice_set w.machine.cores r.core left; links = w.machine.links; trace = noted w.machine.trace made }) →
-      Follows g may_rest who w x (watched_after w (Step c t) (record { cores = slice_set w.machine.cores c left; links = w.machine.links; trace = noted w.machine.trace made })) →
+  followed : (may_rest : (core thread : ℕ) → Bool) → ((d u : ℕ) → d ≢ c → may_rest d u ≡ false) → (left : CoreState) (made : Option Record) (sent : List Sent) →
+      stepped (home g r) w.machine r.core r.thread a did ≡ Some (behind_step w.machine r.core left made sent) →
+      Follows g may_rest who w x (watched_after w (Step c t) (behind_step w.machine c left made sent)) →
       IsFollowed g who w x c t r a did
 
 module _ (g : Setting) (may_rest : (core thread : ℕ) → Bool) (who : Roles) (w : Watched) (x : Told (of_kernel g.program)) (st : Standing g may_rest who w x)

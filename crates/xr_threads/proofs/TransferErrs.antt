@@ -25,7 +25,7 @@ module _ {moment : Moment none_rests} {thread_at : ThreadAt moment None} (branch
 
   pub errs_followed : StopsIn r.transfer → Errs g r (record { core = a; world = x.state; hand = None }) → IsFollowed g who w x c t r a (slot (home g r) a r.thread)
   errs_followed stops h =
-      followed none_rests (λ d u ne. refl) (trapped a r.thread) (Some (Fault r.core h.pos h.kind))
+      followed none_rests (λ d u ne. refl) (trapped a r.thread) (Some (Fault r.core h.pos h.kind)) []
       (ap (stepped (home g r) w.machine r.core r.thread a) h.traps
       ∙ ap (λ f. Some (record { cores = slice_set w.machine.cores r.core (trapped a r.thread); links = w.machine.links; trace = w.machine.trace ++ f ∷ [] })) h.fault)
       (errs_answered branch_at stops h)
