@@ -155,6 +155,7 @@ module _ (g : Setting) (who : Roles) (is : IsImageOf g who) where
           };
           in_hand = h.in_hand;
           sides = h.sides;
+          inside = h.inside;
           done = h.done;
           stops = h.stops;
           ends_tied = h.ends_tied;

@@ -169,6 +169,7 @@ module _ (g : Setting) (who : Roles) (is : IsImageOf g who) where
           (record { thread = running r.tie (entry + 2) (set_regs r); there = set_there; tied = refl; events = sym (ap is_watching b.items ∙ items_unwatched g r items [] (entry + 2) 0 code_there); is = refl });
       in_hand = empty refl;
       sides = is.sides r.branch branch known ∙ sym h.is_root.sides;
+      inside = is.plain.outside r.branch branch known ∙ sym h.is_root.outside;
       done = λ f. h.is_root.no_transfer;
       stops = λ f. subst StopsIn (sym h.is_root.no_transfer) tt;
       ends_tied = λ f. let both : runs ≡ ended = sym b.mode ∙ f in cc;

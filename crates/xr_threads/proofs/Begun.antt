@@ -393,6 +393,11 @@ module _ {moment : Moment none_rests} {hand : Option Hand} (thread_at : ThreadAt
       let works = works_at moment c t r hand runs_r in
       ap (λ (i : Branch). i.sides) (sym (branch_of works.branch works.known)) ∙ works.sides
 
+  maker_inside : b.branch.inside ≡ r.inside
+  maker_inside =
+      let works = works_at moment c t r hand runs_r in
+      ap (λ (i : Branch). i.inside) (sym (branch_of works.branch works.known)) ∙ works.inside
+
   abbrev maker : Branch
   maker = waiting g.program g.stimulus r.branch x.state b.branch all b.rest
 
@@ -638,6 +643,7 @@ module _ {moment : Moment none_rests} {hand : Option Hand} (thread_at : ThreadAt
         thread = record { thread = running (Some b.sync) k.1.pc k.1.regs; there = k.1.here; tied = refl; events = events_on branch.mode branch.items false new.mode (sym (ap is_watching new.items ∙ rest_unwatched g (kid i u) (todo k.0.code (ends ∷ [])) 0 (record { core = left; world = world; hand = None }) rest)); is = subst (λ m. ThreadIs [] m Running) (sym new.mode) refl };
         in_hand = empty refl;
         sides = new.sides ∙ ap sides_at (sym k.2);
+        inside = new.inside ∙ maker_inside;
         done = λ over. refl;
         stops = λ over. tt;
         ends_tied = λ over. let both : runs ≡ ended = sym new.mode ∙ over in absurd (let z : ⊥ = cc in z);
@@ -712,12 +718,14 @@ module _ {moment : Moment none_rests} {hand : Option Hand} (thread_at : ThreadAt
               several = λ k e. let some = several in omega (arith, some);
               fits = (fits_everywhere g r (does (kernel.par all) ∷ b.rest) outermost_block b.fits).1;
               sides = maker_sides;
+              inside = maker_inside;
             },
             waiting_still,
           );
           thread = record { thread = th'; there = own_left; tied = refl; events = events_on branch.mode branch.items false new.mode (sym (ap is_watching new.items ∙ rest_unwatched g own first_items b.jumps (record { core = left; world = world; hand = None }) rest)); is = subst (λ m. ThreadIs own.parents m Running) (sym new.mode) refl };
           in_hand = empty refl;
           sides = new.sides;
+          inside = new.inside ∙ maker_inside;
           done = λ over. refl;
           stops = λ over. tt;
           ends_tied = λ over. let both : runs ≡ ended = sym new.mode ∙ over in absurd (let z : ⊥ = cc in z);

@@ -112,6 +112,7 @@ module _ (K : kernel.Kernel) (L : Image) (checked : IsChecked K) (is : IsImage K
         tie = refl;
         alone = refl;
         sides = refl;
+        outside = refl;
         no_transfer = refl;
         footprint = refl;
         inside = subst (λ n. n < threads_on K core) (sym place) (root_inside K core number root known here);

@@ -131,6 +131,7 @@ module _ {moment : Moment none_rests} {thread_at : ThreadAt moment None} (branch
     thread = record { thread = running r.tie (pc + 1) regs; there = gone_on g r a pc regs regs here ends; tied = refl; events = events_on branch.mode branch.items false on (sym unwatched); is = subst (λ m. ThreadIs r.parents m Running) (sym on) refl };
     in_hand = empty refl;
     sides = stand.sides;
+    inside = stand.inside;
     done = λ over. absurd (runs_ended (sym on ∙ over));
     stops = λ over. absurd (runs_erred (sym on ∙ over));
     ends_tied = λ over. absurd (runs_ended (sym on ∙ over));

@@ -638,6 +638,7 @@ module _ {moment : Moment none_rests} (thread_at : ThreadAt moment None)
       thread = record { thread = th'; there = own_left; tied = refl; events = sym (ap is_watching chain.0.items ∙ items_unwatched g maker p.items gives'.exits (gives'.pc + 1) j gives'.at_code); is = refl };
       in_hand = gives_back n refl;
       sides = chain.0.sides;
+      inside = chain.0.inside;
       done = λ over. refl;
       stops = λ over. tt;
       ends_tied = λ over. let both : runs ≡ ended = over in absurd (let z : ⊥ = cc in z);

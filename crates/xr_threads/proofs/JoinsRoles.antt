@@ -16,7 +16,7 @@ use Rattle.xr_threads.proofs.Wiring.{TransfersAsBefore}
 module _ (g : Setting) (who : Roles) (c t : ℕ) (roles : AreRoles g who) (r : Runner) (was : who c t ≡ used_by r None) (p : Parent) (ps : List Parent) (chain : r.parents ≡ p ∷ ps) (n : ℕ) (sync : p.sync ≡ Some n) where
   -- the thread runs the maker again, with the synchroniser to be given back
   abbrev pub own : Runner
-  own = record r { branch = p.branch; parents = ps; footprint = footprint_of p.items; sides = p.sides; transfer = None }
+  own = record r { branch = p.branch; parents = ps; footprint = footprint_of p.items; sides = p.sides; inside = p.inside; transfer = None }
 
   -- a role of a thread that is tied to the synchroniser
   abbrev pub is_tied_role : Role → Bool

@@ -71,6 +71,7 @@ pub record IsNew (maker : Branch) (number index among : ℕ) (placed : Placed) (
   pub mode : b.mode ≡ runs
   pub items : b.items ≡ todo placed.code (ends ∷ [])
   pub sides : b.sides ≡ placed.sides
+  pub inside : b.inside ≡ maker.inside
   pub family : b.family ≡ family_of maker.family number index
   pub birth : b.birth ≡ Some (record { family = maker.family; index = index; among = among })
 
@@ -89,6 +90,7 @@ new_at s among index before (kernel.more_branches (kernel.branch ss pos) bs) zer
         mode = refl;
         items = ap (λ (k : Placed). todo k.code (ends ∷ [])) same;
         sides = ap (λ (k : Placed). k.sides) same;
+        inside = refl;
         family = ap (λ k. family_of s.branch.family (length s.world.branches + k) k) place;
         birth = ap (λ k. Some (record { family = s.branch.family; index = k; among = among })) place;
       },

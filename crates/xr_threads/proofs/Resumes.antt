@@ -271,6 +271,7 @@ module _ {moment : Moment none_rests} {n : ℕ} (thread_at : ThreadAt moment (gi
       };
       in_hand = empty refl;
       sides = stand.sides;
+      inside = stand.inside;
       done = stand.done;
       stops = stand.stops;
       ends_tied = λ over. let both : runs ≡ ended = sym mode ∙ over in absurd (let z : ⊥ = cc in z);

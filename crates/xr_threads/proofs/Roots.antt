@@ -31,6 +31,7 @@ runner_of K core thread number root = record {
   footprint = footprint_of (todo root.body (ends ∷ []));
   parents = [];
   sides = root_sides K number;
+  inside = [];
   transfer = None;
 }
 

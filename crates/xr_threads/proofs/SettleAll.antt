@@ -80,6 +80,7 @@ stands_otherwise g r rests rests' hand a x life actions branch h by = record {
   thread = h.thread;
   in_hand = h.in_hand;
   sides = h.sides;
+  inside = h.inside;
   done = h.done;
   stops = h.stops;
   ends_tied = h.ends_tied;

@@ -137,6 +137,7 @@ module _ {may_rest : (core thread : ℕ) → Bool} {moment : Moment may_rest} {t
       thread = stand.thread;
       in_hand = subst (λ l. HandFits l hand) (sym items_are) (first_held items).0;
       sides = stand.sides;
+      inside = stand.inside;
       done = stand.done;
       stops = stand.stops;
       ends_tied = stand.ends_tied;
@@ -181,7 +182,7 @@ module _ {may_rest : (core thread : ℕ) → Bool} {moment : Moment may_rest} {t
           standing = settled thread_at (shrunk r others) None piece y d h.has.holds h.has.ports none may_rest (λ i u ne m. m) next there
               (resting g (shrunk r others) (may_rest c t) a y (w.lives c t) (told_by g.program g.stimulus x piece y).actions next j stand.left may
               (ap (λ (b : Branch). b.core) (sym same) ∙ stand.core) (ap (λ (b : Branch). b.family) (sym same) ∙ stand.family) refl
-              (parents_beside g r x.state q.branch q.known q.running next r.parents r.branch stand.parents) (ap (λ (b : Branch). b.sides) (sym same) ∙ stand.sides) none q.running q.rest few (bound_behind piece y stand.left (omega arith)));
+              (parents_beside g r x.state q.branch q.known q.running next r.parents r.branch stand.parents) (ap (λ (b : Branch). b.sides) (sym same) ∙ stand.sides) (ap (λ (b : Branch). b.inside) (sym same) ∙ stand.inside) none q.running q.rest few (bound_behind piece y stand.left (omega arith)));
           named = λ names. settles_linked g may_rest who w x st names c t r (shrunk r others) None None runs_r refl (inl refl) (told_by g.program g.stimulus x piece y) (told_one g x piece y r.branch q.branch next q.known refl refl);
           none_inside = none_with who c t (shrunk r others) None none;
           runner = shrunk r others;
@@ -193,7 +194,7 @@ module _ {may_rest : (core thread : ℕ) → Bool} {moment : Moment may_rest} {t
 
     -- 3. Another branch is made, for which its own one waits.
     under_settles : (ss : kernel.Statements) (pos : Pos) (rest : List Item) → items ≡ does (kernel.par (kernel.more_branches (kernel.branch ss pos) kernel.no_branch)) ∷ rest → FitOn g r.core rest → GoesUnder g r ss rest j z →
-        thread_weight (waiting_one r.branch (length x.state.branches) rest r.sides ∷ r.parents) (todo ss (ends ∷ [])) < weight → SettlesOne g may_rest who w x c t weight
+        thread_weight (waiting_one r.branch (length x.state.branches) rest r.sides r.inside ∷ r.parents) (todo ss (ends ∷ [])) < weight → SettlesOne g may_rest who w x c t weight
     under_settles ss pos rest these rest_fit q lighter =
         let s = under r (length x.state.branches) ss rest in
         let next : Branch = child_of q.branch ss in
@@ -203,6 +204,7 @@ module _ {may_rest : (core thread : ℕ) → Bool} {moment : Moment may_rest} {t
         let core : q.branch.core ≡ r.core = ap (λ (b : Branch). b.core) (sym same) ∙ stand.core in
         let family : q.branch.family ≡ r.family = ap (λ (b : Branch). b.family) (sym same) ∙ stand.family in
         let sides : q.branch.sides ≡ r.sides = ap (λ (b : Branch). b.sides) (sym same) ∙ stand.sides in
+        let inside : q.branch.inside ≡ r.inside = ap (λ (b : Branch). b.inside) (sym same) ∙ stand.inside in
         let d = settled_under g r x.state q.branch q.known q.running ss pos rest (footprint ∙ ap footprint_of these) q.acted in
         let there = child_there g r x.state q.branch ss rest in
         let made_below : q.branch.family < length x.state.branches = subst (λ f. f < length x.state.branches) (sym family) (family_there g may_rest who w x st c t a at_c r None runs_r) in
@@ -213,7 +215,7 @@ module _ {may_rest : (core thread : ℕ) → Bool} {moment : Moment may_rest} {t
           acted = d.acted;
           standing = settled thread_at s None piece y d h.has.holds h.has.ports none may_rest (λ i u ne m. m) next there
               (resting g s (may_rest c t) a y (w.lives c t) (told_by g.program g.stimulus x piece y).actions next j stand.left may core family refl
-              (parents_under g r x.state q.branch q.known q.running ss rest core family sides rest_fit stand.parents) (ap (sides_under ss) sides) none refl q.rest_there few (bound_behind piece y stand.left (omega arith)));
+              (parents_under g r x.state q.branch q.known q.running ss rest core family sides inside rest_fit stand.parents) (ap (sides_under ss) sides) inside none refl q.rest_there few (bound_behind piece y stand.left (omega arith)));
           named = λ names. settles_linked g may_rest who w x st names c t r s None None runs_r refl (inl refl) (told_by g.program g.stimulus x piece y) (told_under g x piece y r.branch q.branch.family q.branch (maker_of q.branch (length x.state.branches) rest) next q.known refl refl made_below refl);
           none_inside = none_with who c t s None none;
           runner = s;
@@ -276,6 +278,9 @@ module _ {may_rest : (core thread : ℕ) → Bool} {moment : Moment may_rest} {t
       over_sides : own_branch.sides ≡ r.sides
       over_sides = ap (λ (b : Branch). b.sides) (sym (same_branch own_branch own_known)) ∙ stand.sides
 
+      over_inside : own_branch.inside ≡ r.inside
+      over_inside = ap (λ (b : Branch). b.inside) (sym (same_branch own_branch own_known)) ∙ stand.inside
+
       over_parents : ParentsWait g over_world r.core r.family r.parents r.branch
       over_parents = parents_beside g r x.state own_branch own_known own_running (finished own_branch) r.parents r.branch stand.parents
 
@@ -320,6 +325,7 @@ module _ {may_rest : (core thread : ℕ) → Bool} {moment : Moment may_rest} {t
           };
           in_hand = empty refl;
           sides = over_sides;
+          inside = over_inside;
           done = λ e. none;
           stops = λ e. absurd (let z : ⊥ = cc in z);
           ends_tied = λ e alone. let both : p ∷ ps ≡ [] = sym parents ∙ alone in absurd (let z : ⊥ = cc in z);
@@ -363,6 +369,7 @@ module _ {may_rest : (core thread : ℕ) → Bool} {moment : Moment may_rest} {t
           parents = over_parents;
           in_hand = empty refl;
           sides = over_sides;
+          inside = over_inside;
           done = λ e. none;
           stops = λ e. absurd (let z : ⊥ = cc in z);
         }
@@ -449,7 +456,7 @@ module _ {may_rest : (core thread : ℕ) → Bool} {moment : Moment may_rest} {t
           acted = up_settled.acted;
           standing = settled thread_at above None up_piece risen_y up_settled h.has.holds h.has.ports none may_rest (λ i u ne m. m) up_next up_there
               (resting g above (may_rest c t) a risen_y (w.lives c t) (told_by g.program g.stimulus x up_piece risen_y).actions up_next j stand.left may waiting.0.on_core waiting.0.of_family (ap footprint_of (sym waiting.0.items))
-              (parents_risen g r x.state own_branch own_known own_running (length g.program.roots) st.lawful.forest p ps waiting.0.branch waiting) waiting.0.sides none refl up_rest few (bound_behind up_piece risen_y stand.left (omega arith)));
+              (parents_risen g r x.state own_branch own_known own_running (length g.program.roots) st.lawful.forest p ps waiting.0.branch waiting) waiting.0.sides waiting.0.inside none refl up_rest few (bound_behind up_piece risen_y stand.left (omega arith)));
           named = λ names. settles_linked g may_rest who w x st names c t r above None None runs_r refl (inl refl) (told_by g.program g.stimulus x up_piece risen_y) (told_two g x up_piece risen_y r.branch p.branch own_branch (finished own_branch) waiting.0.branch up_next own_known refl waiting.0.known refl goes_up.apart refl);
           none_inside = none_with who c t above None none;
           runner = above;
@@ -488,5 +495,5 @@ module _ {may_rest : (core thread : ℕ) → Bool} {moment : Moment may_rest} {t
         let fit = subst (FitOn g r.core) e all_fit in
         let own_fit = branch_fits g r.core (kernel.more_branches (kernel.branch ss pos) kernel.no_branch) rest fit 0 ss refl in
         let q = one_settles g r ss pos rest j z (subst (λ k. Rest g r k j z) e h) (footprint ∙ ap footprint_of e) (fits_here g s these outermost_block own_fit refl) in
-        under_settles ss pos rest e fit.1 q (subst (λ k. thread_weight (waiting_one r.branch (length x.state.branches) rest r.sides ∷ r.parents) these < thread_weight r.parents k) (sym e) (one_lighter r.parents (waiting_one r.branch (length x.state.branches) rest r.sides) ss pos))
+        under_settles ss pos rest e fit.1 q (subst (λ k. thread_weight (waiting_one r.branch (length x.state.branches) rest r.sides r.inside ∷ r.parents) these < thread_weight r.parents k) (sym e) (one_lighter r.parents (waiting_one r.branch (length x.state.branches) rest r.sides r.inside) ss pos))
     settles_one l e (branch_end p ps rest parents) = by_sync rest e p ps parents p.sync refl

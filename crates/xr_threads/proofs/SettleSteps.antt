@@ -284,6 +284,7 @@ module _ {may_rest : (core thread : ℕ) → Bool} {moment : Moment may_rest} (t
         parents = parents_still g q x.state y q.core q.family q.parents q.branch (parents_left moment c t a at_c r None runs_r (λ k. nat_eq k t) a y settled_effect i u q other other_one.0 was) works.parents;
         in_hand = works.in_hand;
         sides = works.sides;
+        inside = works.inside;
         done = works.done;
         stops = works.stops;
       })

@@ -152,7 +152,7 @@ module _ (g : Setting) (r : Runner) (x : World) (branch : Branch) (known : slice
         let last : n ≡ length x.branches = omega (arith, e, zero_is) in
         subst (IsMade (length g.program.roots) under_world.branches) (sym last) new_made
 
-    none_sync : (p : Parent) (n : ℕ) → p.sync ≡ Some n → p ≢ waiting_one r.branch (length x.branches) rest r.sides
+    none_sync : (p : Parent) (n : ℕ) → p.sync ≡ Some n → p ≢ waiting_one r.branch (length x.branches) rest r.sides r.inside
     none_sync p n sync e = let both : None ≡ Some n = sym (ap (λ (k : Parent). k.sync) e) ∙ sync in cc
 
     pub settled_under : acts g.program g.stimulus x (go r.branch) ≡ Some under_world → IsSettled g r x (under r (length x.branches) ss rest) None (go r.branch ∷ []) under_world
@@ -172,7 +172,7 @@ module _ (g : Setting) (r : Runner) (x : World) (branch : Branch) (known : slice
         stack = refl;
         outermost_is = refl;
         syncs = refl;
-        there = λ p n sync h. ⊎_elim (λ (e : p ≡ waiting_one r.branch (length x.branches) rest r.sides). absurd (none_sync p n sync e)) (λ (m : IsParent r.parents p). m) h;
+        there = λ p n sync h. ⊎_elim (λ (e : p ≡ waiting_one r.branch (length x.branches) rest r.sides r.inside). absurd (none_sync p n sync e)) (λ (m : IsParent r.parents p). m) h;
         still = λ p n sync h. inr h;
       };
       held = refl;
@@ -185,7 +185,7 @@ module _ (g : Setting) (r : Runner) (x : World) (branch : Branch) (known : slice
       made = λ made n b at on. under_all_made made n b on (behind x.branches r.branch branch maker (child ∷ []) n b known at);
       wants = λ p v h uses.
           ⊎_elim
-          (λ (e : p ≡ waiting_one r.branch (length x.branches) rest r.sides).
+          (λ (e : p ≡ waiting_one r.branch (length x.branches) rest r.sides r.inside).
           let item = does (kernel.par (kernel.more_branches (kernel.branch ss pos) kernel.no_branch)) in
           let mine : by_items (variable v) rest ≡ true = subst (λ (k : Parent). by_items (variable v) k.items ≡ true) e uses in
           inr (ap (λ (f : Footprint). f.uses v) footprint ∙ or_right (by_item (variable v) item) (by_items (variable v) rest) mine))

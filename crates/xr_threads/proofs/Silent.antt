@@ -177,6 +177,7 @@ module _ {moment : Moment none_rests} {hand : Option Hand} {thread_at : ThreadAt
       thread = record { thread = on.thread; there = on.there; tied = on.tied; events = calm on.thread.event_bit on.no_events; is = alive on.thread.mode on.runs };
       in_hand = s.in_hand;
       sides = stand.sides;
+      inside = stand.inside;
       done = stand.done;
       stops = stand.stops;
       ends_tied = stand.ends_tied;

@@ -130,6 +130,7 @@ module _ (g : Setting) (r : Runner) where
     several = h.several;
     fits = h.fits;
     sides = h.sides;
+    inside = h.inside;
   }
 
   pub parents_still : (x y : World) (core family : ℕ) (ps : List Parent) (first : ℕ) → ((b : ℕ) → IsAmong (branches_of ps) b → slice_get y.branches b ≡ slice_get x.branches b) → ParentsWait g x core family ps first → ParentsWait g y core family ps first
@@ -149,6 +150,7 @@ module _ (g : Setting) (r : Runner) where
         thread = thread_still branch.mode branch.items z z' k h.thread;
         in_hand = h.in_hand;
         sides = h.sides;
+        inside = h.inside;
         done = h.done;
         stops = h.stops;
         ends_tied = h.ends_tied;

@@ -87,6 +87,7 @@ module _ {may_rest : (core thread : ℕ) → Bool} {moment : Moment may_rest} {h
         parents = parents_still g s x.state y s.core s.family s.parents s.branch (parents_left moment c t a at_c r hand runs_r moved b y effect c u s other ne runs_s) works.parents;
         in_hand = works.in_hand;
         sides = works.sides;
+        inside = works.inside;
         done = works.done;
         stops = works.stops;
       }

@@ -120,6 +120,7 @@ module _ {moment : Moment none_rests} {thread_at : ThreadAt moment None} (branch
           thread = record { thread = running_so (is_watching h.items) r.tie h.rest.pc h.rest.regs; there = h.rest.here; tied = refl; events = events_on h.acts.branch.mode h.items (is_watching h.items) h.acts.mode refl; is = subst (λ m. ThreadIs r.parents m Rattle.xs_instr.specs.declared.state.Mode.TheVariants.Running) (sym h.acts.mode) refl };
           in_hand = empty refl;
           sides = ap (λ (b : Branch). b.sides) (same_branch went) ∙ stand.sides;
+          inside = ap (λ (b : Branch). b.inside) (same_branch went) ∙ stand.inside;
           done = λ f. none;
           stops = λ f. stops_outside r.transfer none;
           ends_tied = λ f. absurd (runs_ended (sym h.acts.mode ∙ f));
@@ -162,6 +163,7 @@ module _ {moment : Moment none_rests} {thread_at : ThreadAt moment None} (branch
           thread = record { thread = record stand.thread.thread { mode = Trapped }; there = t'.there; tied = stand.thread.tied; events = tt; is = trapped_is r.parents };
           in_hand = empty refl;
           sides = ap (λ (b : Branch). b.sides) (same_branch erring) ∙ stand.sides;
+          inside = ap (λ (b : Branch). b.inside) (same_branch erring) ∙ stand.inside;
           done = λ f. absurd (erred_ended f);
           stops = λ f. stops;
           ends_tied = λ f. absurd (erred_ended f);
@@ -245,6 +247,7 @@ module _ {moment : Moment none_rests} {thread_at : ThreadAt moment None} (branch
           thread = record { thread = th.0; there = th.1; tied = th.2.tied ∙ sym h.tied; events = th.2.no_events; is = subst (λ ps. ThreadIs ps ended th.0.mode) (sym h.outermost) th.2.waits };
           in_hand = empty refl;
           sides = ap (λ (b : Branch). b.sides) (same_branch waiting) ∙ stand.sides;
+          inside = ap (λ (b : Branch). b.inside) (same_branch waiting) ∙ stand.inside;
           done = λ f. none;
           stops = λ f. stops_outside r.transfer none;
           ends_tied = λ f bare. (h.sync, h.tied);

@@ -60,6 +60,7 @@ module _ (g : Setting) (core family : ℕ) where
     several = h.several;
     fits = h.fits;
     sides = h.sides;
+    inside = h.inside;
   }
 
   pub parents_wait_on : (x y : World) (ps : List Parent) (first : ℕ) → ((b : ℕ) → IsAmong (branches_of ps) b → slice_get y.branches b ≡ slice_get x.branches b) → ParentsWait g x core family ps first → ParentsWait g y core family ps first

@@ -35,6 +35,7 @@ pub record Works (g : Setting) (x : World) (r : Runner) (hand : Option Hand) : T
   pub parents : ParentsWait g x r.core r.family r.parents r.branch
   pub in_hand : HandFits branch.items hand
   pub sides : branch.sides ≡ r.sides
+  pub inside : branch.inside ≡ r.inside
   pub done : branch.mode ≡ ended → r.transfer ≡ None
   pub stops : branch.mode ≡ erred → StopsIn r.transfer
 
@@ -95,6 +96,7 @@ works_of g r may_rest hand a x life actions h =
       parents = st.parents;
       in_hand = st.in_hand;
       sides = st.sides;
+      inside = st.inside;
       done = st.done;
       stops = st.stops;
     }

@@ -52,6 +52,7 @@ pub record IsRoot (g : Setting) (r : Runner) (root : kernel.Root) : Type 0 where
   pub tie : r.tie ≡ None
   pub alone : r.parents ≡ []
   pub sides : r.sides ≡ root_sides g.program r.branch
+  pub outside : r.inside ≡ []
   pub no_transfer : r.transfer ≡ None
   pub footprint : r.footprint ≡ footprint_of (todo root.body (ends ∷ []))
   pub inside : r.thread < threads_on g.program r.core

@@ -4,7 +4,7 @@ use Rattle.xc_meaning.specs.States.Items.{Item}
 use Rattle.xl_sides.specs.Ends.{Sides}
 
 -- A branch that waits for those of its `par`, the first of which its own thread runs: its number, theirs, the synchroniser of the other
--- ones where there are some, what is left to it, and the sides of channels in which it stands.
+-- ones where there are some, what is left to it, the sides of channels in which it stands, and the transactions, the innermost first.
 pub record Parent : Type 0 where
   pub branch : ℕ
   pub from : ℕ
@@ -12,6 +12,7 @@ pub record Parent : Type 0 where
   pub sync : Option ℕ
   pub items : List Item
   pub sides : Sides
+  pub inside : List ℕ
 
 -- `syncs_of`, by cases
 abbrev pub sync_before : Option ℕ → List ℕ → List ℕ

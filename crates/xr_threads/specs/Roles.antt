@@ -58,6 +58,7 @@ pub record ParentWaits (g : Setting) (x : World) (core family : ℕ) (p : Parent
   pub several : (n : ℕ) → p.sync ≡ Some n → 2 ≤ p.count
   pub fits : FitOn g core p.items
   pub sides : branch.sides ≡ p.sides
+  pub inside : branch.inside ≡ p.inside
 
 abbrev pub ParentsWait : Setting → World → (core family : ℕ) → List Parent → (first : ℕ) → Type 0
 ParentsWait g x core family [] first = Unit {0}

@@ -76,7 +76,8 @@ abbrev pub places : Setting → (core : ℕ) → List (Option VarPlan)
 places g core = (g.plans core).vars
 
 -- A hardware thread that runs a branch: its code stands in a block, and its temporary words begin at word `stack`. Its steps count for a family.
--- Other branches may wait for that one, the innermost first. It stands in sides of channels, and its thread may be inside a transfer.
+-- Other branches may wait for that one, the innermost first. It stands in sides of channels and inside transactions,
+-- and its thread may be inside a transfer.
 pub record Runner : Type 0 where
   pub core : ℕ
   pub thread : ℕ
@@ -88,6 +89,7 @@ pub record Runner : Type 0 where
   pub footprint : Footprint
   pub parents : List Parent
   pub sides : Sides
+  pub inside : List ℕ
   pub transfer : Option Transfer
 
 -- some thread of a core, with all variables and ports
@@ -103,6 +105,7 @@ anyone core = record {
   footprint = everything;
   parents = [];
   sides = [];
+  inside = [];
   transfer = None;
 }
 

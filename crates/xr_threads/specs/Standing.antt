@@ -109,6 +109,7 @@ module _ (g : Setting) (r : Runner) where
     pub thread : HasThread branch.mode branch.items a
     pub in_hand : HandFits branch.items hand
     pub sides : branch.sides ≡ r.sides
+    pub inside : branch.inside ≡ r.inside
     pub done : branch.mode ≡ ended → r.transfer ≡ None
     pub stops : branch.mode ≡ erred → StopsIn r.transfer
     pub ends_tied : branch.mode ≡ ended → r.parents ≡ [] → (n : ℕ) × (r.tie ≡ Some n)

@@ -421,7 +421,7 @@ module _ (g : Setting) (r : Runner) where
     pub fewer : jumps ≤ j + 1
     pub own_code : (from count : ℕ) → ItemsAt (plan g r) (code g r) (sides_in 0 [] first (codes_in others) r.sides)
         (EndAt (plan g r) (code g r) r.tie
-        (record { branch = r.branch; from = from; count = count; sync = Some sync; items = rest; sides = r.sides } ∷ r.parents))
+        (record { branch = r.branch; from = from; count = count; sync = Some sync; items = rest; sides = r.sides; inside = r.inside } ∷ r.parents))
         (todo first (ends ∷ [])) [] (pc + 1) jumps
     pub set_off : AreSetOff (row_goes_on (put_threads y.core (all_started y.core.threads sync)) r.thread (running r.tie pc regs) regs)
         sync hand.threads (backwards (placed_in r.sides (first ∷ []) others))
