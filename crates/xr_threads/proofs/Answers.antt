@@ -1,5 +1,5 @@
 -- A thread's turn is a branch's own step: it errs, goes on, ends and is freed, or ends and waits.
-use Rattle.std.proofs.Common.{◌≡◌, ℕ, ◌+◌, ◌≤◌, inl, inr, length, Some, None, refl, sym, ap, ◌∙◌, subst, arith}
+use Rattle.std.proofs.Common.{◌≡◌, ℕ, ◌+◌, ◌≤◌, inl, inr, length, Some, None, refl, sym, ap, ◌∙◌, subst, arith, [], ◌∷◌}
 use Rattle.std.specs.Prelude.{not, ◌&&◌, nat_eq, slice_get, slice_set}
 use Rattle.std.proofs.lemmas.List.{length-set}
 use Rattle.std.proofs.lemmas.Option.{same_Some}
@@ -10,6 +10,7 @@ use Rattle.xs_instr.specs.declared.trace.Record.TheVariants.{Fault}
 use Rattle.xs_instr.specs.Slot.{trapped, trapped_at}
 use Rattle.xs_instr.specs.OwnSteps.{temporary}
 use Rattle.xc_kernel.specs.declared.kernel.PortUse.{PortUse}
+use Rattle.xc_meaning.specs.Runs.{acts_all}
 use Rattle.xc_meaning.specs.States.Branches.{Branch, runs, has_ended}
 use Rattle.xc_meaning.specs.States.Worlds.{World}
 use Rattle.xl_expr.proofs.Lists.{get_set_same, get_set_other}
@@ -19,7 +20,7 @@ use Rattle.xr_threads.specs.Runners.{Setting, Runner, IsPort, places, port_place
 use Rattle.xr_threads.specs.ThreadViews.{Guarantee, ThreadView, running_so}
 use Rattle.xr_threads.specs.Standing.{counts, is_of_root, one_where}
 use Rattle.xr_threads.specs.Turns.{Errs, Frees, Goes, HoldsStore, IsFree, IsWaitingTied, PortsStand, Waits, failed, finished, is_watching}
-use Rattle.xr_threads.proofs.Counts.{ended_counts}
+use Rattle.xr_threads.proofs.Counts.{ended_counts, counts_own}
 use Rattle.xr_threads.proofs.OwnEvents.{OwnStep}
 
 module _ (g : Setting) (r : Runner) (c : ℕ) (a : CoreState) (x : World) where
@@ -35,9 +36,9 @@ module _ (g : Setting) (r : Runner) (c : ℕ) (a : CoreState) (x : World) where
     known = h.acts.known;
     running = h.acts.mode;
     world = h.acts.world;
-    action = h.acts.action;
-    own = h.acts.own;
-    acted = h.acts.acted;
+    piece = h.acts.action ∷ [];
+    acted = ap (λ o. acts_all g.program g.stimulus o []) h.acts.acted;
+    paid = counts_own g r.branch x h.acts.branch h.acts.action [] h.acts.known h.acts.own;
     next = record h.acts.branch { items = h.items };
     transfer = r.transfer;
     is_next = h.acts.is_next;
@@ -104,9 +105,9 @@ module _ (g : Setting) (r : Runner) (c : ℕ) (a : CoreState) (x : World) where
         known = h.acts.known;
         running = h.acts.mode;
         world = h.acts.world;
-        action = h.acts.action;
-        own = h.acts.own;
-        acted = h.acts.acted;
+        piece = h.acts.action ∷ [];
+        acted = ap (λ o. acts_all g.program g.stimulus o []) h.acts.acted;
+        paid = counts_own g r.branch x h.acts.branch h.acts.action [] h.acts.known h.acts.own;
         next = failed h.acts.branch;
         transfer = r.transfer;
         is_next = h.acts.is_next;
@@ -131,9 +132,9 @@ module _ (g : Setting) (r : Runner) (c : ℕ) (a : CoreState) (x : World) where
     known = h.acts.known;
     running = h.acts.mode;
     world = h.acts.world;
-    action = h.acts.action;
-    own = h.acts.own;
-    acted = h.acts.acted;
+    piece = h.acts.action ∷ [];
+    acted = ap (λ o. acts_all g.program g.stimulus o []) h.acts.acted;
+    paid = counts_own g r.branch x h.acts.branch h.acts.action [] h.acts.known h.acts.own;
     next = finished h.acts.branch;
     transfer = r.transfer;
     is_next = h.acts.is_next;
@@ -155,9 +156,9 @@ module _ (g : Setting) (r : Runner) (c : ℕ) (a : CoreState) (x : World) where
     known = h.acts.known;
     running = h.acts.mode;
     world = h.acts.world;
-    action = h.acts.action;
-    own = h.acts.own;
-    acted = h.acts.acted;
+    piece = h.acts.action ∷ [];
+    acted = ap (λ o. acts_all g.program g.stimulus o []) h.acts.acted;
+    paid = counts_own g r.branch x h.acts.branch h.acts.action [] h.acts.known h.acts.own;
     next = finished h.acts.branch;
     transfer = r.transfer;
     is_next = h.acts.is_next;

@@ -1,5 +1,6 @@
 -- The names behind each event, with the roles that the event leaves.
 use Rattle.std.proofs.Common.{◌≡◌, ℕ, suc, ◌+◌, ◌<◌, ◌≤◌, ◌≢◌, inl, inr, Bool, true, false, List, [], ◌∷◌, ◌++◌, length, Option, Some, None, refl, sym, ap, ◌∙◌, subst, ⊎_elim, arith}
+use Rattle.std.proofs.lemmas.Option.{same_Some}
 use Rattle.std.specs.Prelude.{slice_get, slice_set}
 use Rattle.xs_instr.specs.declared.state.CoreState.{CoreState}
 use Rattle.xs_instr.specs.declared.state.Thread.{Thread}
@@ -108,15 +109,16 @@ module _ (g : Setting) (may_rest : (core thread : ℕ) → Bool) (who : Roles) (
         goes_named g may_rest who (with_role who c t role) w m' x x' st named c t a b at_a at_b r None runs_r goes syncs threads s None (role_here who c t role) family (inl refl) (with_role_others who c t role)
 
     -- The end of a root.
-    pub leaves_linked : who c t ≡ used_by r None → (action : Action) → OwnAction r.branch action → (y : World) (new old : Branch) → slice_get x.state.branches r.branch ≡ Some old → new.birth ≡ old.birth → y.branches ≡ slice_set x.state.branches r.branch new → b.syncs ≡ a.syncs →
-        ((u : ℕ) → u ≢ t → slice_get b.threads u ≡ slice_get a.threads u) → AreNamed g (with_role who c t unused) w' (told_by g.program g.stimulus x (action ∷ []) y)
-    leaves_linked runs_r action own y new old known birth set syncs threads =
+    pub leaves_linked : who c t ≡ used_by r None → (piece : List Action) → (y : World) (new old : Branch) → 1 ≤ steps_of g.program g.stimulus old.family (Some x.state) piece →
+        slice_get x.state.branches r.branch ≡ Some old → new.birth ≡ old.birth → y.branches ≡ slice_set x.state.branches r.branch new → b.syncs ≡ a.syncs →
+        ((u : ℕ) → u ≢ t → slice_get b.threads u ≡ slice_get a.threads u) → AreNamed g (with_role who c t unused) w' (told_by g.program g.stimulus x piece y)
+    leaves_linked runs_r piece y new old paid known birth set syncs threads =
         let stand = stand_of g may_rest who w x st c a at_a t r None runs_r in
-        let one = counts_own g r.branch x.state stand.0 action [] stand.1 own in
-        let one' = subst (λ f. 1 ≤ steps_of g.program g.stimulus f (Some x.state) (action ∷ [])) stand.2.family one in
-        let x' = told_by g.program g.stimulus x (action ∷ []) y in
+        let family : old.family ≡ r.family = ap (λ (b : Branch). b.family) (same_Some old stand.0 (sym known ∙ stand.1)) ∙ stand.2.family in
+        let one' = subst (λ f. 1 ≤ steps_of g.program g.stimulus f (Some x.state) piece) family paid in
+        let x' = told_by g.program g.stimulus x piece y in
         freed_named g may_rest who (with_role who c t unused) w m' x x' st named c t a b at_a at_b r None runs_r
-        (told_one g x (action ∷ []) y r.branch old new known birth set) syncs threads (role_here who c t unused) (omega (arith, one')) (with_role_others who c t unused)
+        (told_one g x piece y r.branch old new known birth set) syncs threads (role_here who c t unused) (omega (arith, one')) (with_role_others who c t unused)
 
     -- A synchroniser is given back.
     pub resumes_linked : (s : Runner) (n : ℕ) → who c t ≡ used_by r (giving_back n) → s.family ≡ r.family → (x' : Told (of_kernel g.program)) → Goes g x x' → slice_get a.syncs n ≡ Some true → b.syncs ≡ slice_set a.syncs n false → ((u : ℕ) → u ≢ t → slice_get b.threads u ≡ slice_get a.threads u) →

@@ -10,6 +10,7 @@ use Rattle.xs_instr.specs.declared.trace.Record.{Record}
 use Rattle.xs_instr.specs.Machine.{noted}
 use Rattle.xc_disjoint.specs.Needs.{threads_on}
 use Rattle.xc_laws.specs.Tree.{IsWaiting}
+use Rattle.xc_meaning.specs.Counts.Families.{steps_of}
 use Rattle.xc_meaning.specs.Runs.{acts, acts_all}
 use Rattle.xc_meaning.specs.States.Branches.{Branch, runs, waits, ended, has_ended}
 use Rattle.xc_meaning.specs.States.Items.{Item}
@@ -80,8 +81,9 @@ first_unchanged (item ∷ rest) v h = neither (by_item (change v) item) (by_item
     neither true b h = h
     neither false b h = refl
 
--- What a branch's own step leaves of its core and of the program. As many roots and roots' branches go on, the thread is tied as before or to
--- nothing, and memory and ports are as the program has them. The thread may be inside a transfer then.
+-- What a branch's own step leaves of its core and of the program, which does a piece of one action or more with it, one at least for the branch's family.
+-- As many roots and roots' branches go on, the thread is tied as before or to nothing, and memory and ports are as the program has them. The thread may be
+-- inside a transfer then.
 pub record OwnStep (g : Setting) (r : Runner) (c : ℕ) (a : CoreState) (x : World) : Type 0 where
   pub left : CoreState
   pub made : Option Record
@@ -89,9 +91,9 @@ pub record OwnStep (g : Setting) (r : Runner) (c : ℕ) (a : CoreState) (x : Wor
   pub known : slice_get x.branches r.branch ≡ Some branch
   pub running : branch.mode ≡ runs
   pub world : World
-  pub action : Action
-  pub own : OwnAction r.branch action
-  pub acted : acts g.program g.stimulus x action ≡ Some world
+  pub piece : List Action
+  pub acted : acts_all g.program g.stimulus (Some x) piece ≡ Some world
+  pub paid : 1 ≤ steps_of g.program g.stimulus branch.family (Some x) piece
   pub next : Branch
   pub transfer : Option Transfer
   pub birth : next.birth ≡ branch.birth
@@ -119,7 +121,7 @@ module _ {moment : Moment none_rests} (thread_at : ThreadAt moment None)
   moved = only_thread t
 
   abbrev piece : List Action
-  piece = e.action ∷ []
+  piece = e.piece
 
   -- the branch is another one, and the others are what they were
   own_branch : slice_get e.world.branches r.branch ≡ Some e.next
@@ -132,7 +134,7 @@ module _ {moment : Moment none_rests} (thread_at : ThreadAt moment None)
   branch_cases n branch there = get_set_cases x.state.branches r.branch n e.branch e.next branch e.known (ap (λ l. slice_get l n) (sym e.is_next.branches) ∙ there)
 
   pub all_acted : acts_all g.program g.stimulus (Some x.state) piece ≡ Some e.world
-  all_acted = ap (λ o. acts_all g.program g.stimulus o []) e.acted
+  all_acted = e.acted
 
   -- what its runner may not change, its first item doesn't
   own_store : (v : ℕ) → r.footprint.changes v ≡ false → words_of e.world.store v ≡ words_of x.state.store v

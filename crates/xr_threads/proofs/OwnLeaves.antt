@@ -41,7 +41,7 @@ module _ {moment : Moment none_rests} (thread_at : ThreadAt moment None)
   open thread_at use {core as c, thread as t, state as a, at_core as at_c, runner as r, runs as runs_r}
 
   abbrev piece : List Action
-  piece = e.action ∷ []
+  piece = e.piece
 
   abbrev effect : Effect g who c t r None (only_thread t) a e.left x.state e.world
   effect = own_effect thread_at e
@@ -153,5 +153,5 @@ module _ {moment : Moment none_rests} (thread_at : ThreadAt moment None)
               run = run_off;
               made = own_made thread_at e;
             });
-        named = λ names. leaves_linked g none_rests who w x st names watched_off.machine c t a e.left at_c (at_left thread_at e) r runs_r e.action e.own e.world e.next e.branch e.known e.birth e.is_next.branches e.syncs (others_there thread_at e);
+        named = λ names. leaves_linked g none_rests who w x st names watched_off.machine c t a e.left at_c (at_left thread_at e) r runs_r e.piece e.world e.next e.branch e.paid e.known e.birth e.is_next.branches e.syncs (others_there thread_at e);
       }

@@ -95,9 +95,9 @@ module _ {moment : Moment none_rests} {thread_at : ThreadAt moment None} {branch
     known = known;
     running = on;
     world = world;
-    action = go r.branch;
-    own = own_go;
-    acted = acted;
+    piece = go r.branch ∷ [];
+    acted = ap (λ o. acts_all g.program g.stimulus o []) acted;
+    paid = counts_one g r.branch x.state branch [] known;
     next = record branch { items = items };
     birth = refl;
     is_next = is_next;
