@@ -41,14 +41,14 @@ use Rattle.xr_threads.specs.Turns.{Communicates, Errs, Has, InTransfer, IsNext, 
 use Rattle.xr_threads.specs.Wired.{AreSidesOn, HasAlone, IsLine, boxes_in}
 use Rattle.xr_threads.proofs.ChannelBoxes.{line_boxed, line_parcels}
 use Rattle.xr_threads.proofs.ChannelWorlds.{input_errs, received, received_boxes, takes_offer}
-use Rattle.xr_threads.proofs.EndRows.{AtEnd, Goal, acts_row, answered_there, begins_there, boxes_answered, near_end, stays_in, word_row}
+use Rattle.xr_threads.proofs.EndRows.{AtEnd, Goal, acts_row, answered_there, boxes_answered, near_end, stays_in, word_row}
 use Rattle.xr_threads.proofs.EndSteps as step
 use Rattle.xr_threads.proofs.EndSteps.{gone_on}
 use Rattle.xr_threads.proofs.Evaluations.{err_acts}
-use Rattle.xr_threads.proofs.InTransfers.{IsFollowed, followed, pauses}
 use Rattle.xr_threads.proofs.Moments.{BranchAt, Moment, ThreadAt}
 use Rattle.xr_threads.proofs.OwnTransfers as own
 use Rattle.xr_threads.proofs.OwnTransfers.{ActsAtEnd, alone_still, behind, does_so, has_behind, left, less}
+use Rattle.xr_threads.proofs.PieceStarts as start
 use Rattle.xr_threads.proofs.Protocols.{word_come}
 use Rattle.xr_threads.proofs.Shrinks.{transfer_shrinks}
 use Rattle.xr_threads.proofs.TransferBegins as begin
@@ -81,36 +81,17 @@ module _ {moment : Moment none_rests} {thread_at : ThreadAt moment None} (branch
   open thread_at use {core as c, thread as t, state as a, at_core as at_c, runner as r, runs as runs_r}
   open branch_at use {branch, known, stand}
 
-  -- the branch, which has the input to do next
-  begins_with : branch.items ≡ does (kernel.input i) ∷ h.rest
-  begins_with = ap (λ (b : Branch). b.items) (same_Some branch h.has.branch (sym known ∙ h.has.runs.known)) ∙ h.has.runs.items_are
+  abbrev at_end : AtEnd thread_at h.on.channel h.on.side between
+  at_end = start.at_end branch_at on none (takes_in i) j h
 
-  has : Has g r branch.items (record { core = a; world = x.state; hand = None })
-  has = subst (λ items. Has g r items (record { core = a; world = x.state; hand = None })) (sym begins_with) h.has
-
-  to_do : Runs x.state r.branch branch (does (kernel.input i) ∷ h.rest)
-  to_do = record { known = known; running = on; items_are = begins_with }
-
-  pub stands : side_of branch h.on.channel ≡ Some h.on.side
-  stands = ap (λ l. slice_index_or l h.on.channel None) stand.sides ∙ h.on.stands_in
+  stands : side_of branch h.on.channel ≡ Some h.on.side
+  stands = start.stands branch_at on none (takes_in i) j h
 
   outside : branch.inside ≡ []
-  outside = st.plain.outside r.branch branch known
-
-  pub is_channel : IsChannel g r h.on.channel
-  is_channel = subst (TakesInAt g r) h.on.is_channel h.fits.0.0.from
-
-  pub uses : IsTrue (by_items (channel h.on.channel) branch.items)
-  uses =
-      subst (λ items. IsTrue (by_items (channel h.on.channel) items)) (sym begins_with)
-      (or_left _ (by_items (channel h.on.channel) h.rest)
-      (or_left (by_resource (channel h.on.channel) i.resource) _ (ap (by_resource (channel h.on.channel)) h.on.is_channel ∙ same_number h.on.channel)))
-
-  abbrev at_end : AtEnd thread_at h.on.channel h.on.side between
-  at_end = begins_there thread_at none branch known on h.on.channel h.on.side is_channel uses stands
+  outside = start.outside branch_at on none (takes_in i) j h
 
   few_boxes : h.on.channel < length x.state.inboxes
-  few_boxes = let lt = is_channel.known in let long = st.wired.long in omega (arith, lt, long)
+  few_boxes = let lt = (start.is_channel branch_at on none (takes_in i) j h).known in let long = st.wired.long in omega (arith, lt, long)
 
   -- A word has come in, with the offer that stood first.
   module _ (v : ℕ) (ps : List Parcel) (found : parcels x.state.inboxes h.on.channel h.on.side ≡ offer v ∷ ps) where
@@ -147,10 +128,10 @@ module _ {moment : Moment none_rests} {thread_at : ThreadAt moment None} (branch
       items = items;
       made = Some (Com r.core v);
       world = world;
-      acted = takes_offer g.program g.stimulus r.branch x.state branch h.on.channel h.on.side h.rest stands outside i v ps h.on.is_channel found to_do;
+      acted = takes_offer g.program g.stimulus r.branch x.state branch h.on.channel h.on.side h.rest stands outside i v ps h.on.is_channel found (start.to_do branch_at on none (takes_in i) j h);
       is_next = record { clocks = refl; branches = refl; store = λ k e. refl; trace = ap (λ n. x.state.trace ++ Com n v ∷ []) stand.core };
       store = refl;
-      has = has;
+      has = start.has branch_at on none (takes_in i) j h;
       unwatched = nothing_unwatched items nothing_awaited_behind;
       transfer = Some transfer;
     }
@@ -197,7 +178,7 @@ module _ {moment : Moment none_rests} {thread_at : ThreadAt moment None} (branch
     holds = h.has.holds;
     ports = h.has.ports;
     no_hand = refl;
-    acts = err_acts g r x.state branch (does (kernel.input i)) h.rest Mismatch i.pos to_do stand.core
+    acts = err_acts g r x.state branch (does (kernel.input i)) h.rest Mismatch i.pos (start.to_do branch_at on none (takes_in i) j h) stand.core
         (input_errs g.program g.stimulus r.branch x.state branch h.on.channel h.on.side h.rest stands outside i p ps h.on.is_channel found wrong);
     store = refl;
   }

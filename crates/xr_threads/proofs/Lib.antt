@@ -80,6 +80,7 @@ pub mod OwnTurns
 pub mod ParCode
 pub mod ParLeads
 pub mod ParWorlds
+pub mod PieceStarts
 pub mod Places
 pub mod Plains
 pub mod Pools

@@ -34,13 +34,13 @@ use Rattle.xr_threads.specs.Turns.{Communicates, Has, InTransfer, IsBehind, IsNe
 use Rattle.xr_threads.specs.Wired.{AreSidesOn, HasAlone, IsLine, boxes_in}
 use Rattle.xr_threads.proofs.ChannelBoxes.{line_boxed, line_parcels}
 use Rattle.xr_threads.proofs.ChannelWorlds.{offered, offers_word}
-use Rattle.xr_threads.proofs.EndRows.{AtEnd, Goal, acts_row, begins_there, boxes_put, near_end, put_there, sends_row, stays_in}
+use Rattle.xr_threads.proofs.EndRows.{AtEnd, Goal, acts_row, boxes_put, near_end, put_there, sends_row, stays_in}
 use Rattle.xr_threads.proofs.EndSteps as step
 use Rattle.xr_threads.proofs.EndSteps.{gone_on}
-use Rattle.xr_threads.proofs.InTransfers.{IsFollowed, followed, pauses}
 use Rattle.xr_threads.proofs.Moments.{BranchAt, Moment, ThreadAt}
 use Rattle.xr_threads.proofs.OwnTransfers as own
 use Rattle.xr_threads.proofs.OwnTransfers.{ActsAtEnd, alone_still, behind, does_so, has_behind, less}
+use Rattle.xr_threads.proofs.PieceStarts as start
 use Rattle.xr_threads.proofs.Protocols.{offer_sent}
 use Rattle.xr_threads.proofs.Shrinks.{transfer_shrinks}
 use Rattle.xr_threads.proofs.TransferBegins as begin
@@ -61,33 +61,14 @@ module _ {moment : Moment none_rests} {thread_at : ThreadAt moment None} (branch
   open thread_at use {core as c, thread as t, state as a, at_core as at_c, runner as r, runs as runs_r}
   open branch_at use {branch, known, stand}
 
-  -- the branch, which has the output to do next
-  begins_with : branch.items ≡ does (kernel.output o) ∷ h.rest
-  begins_with = ap (λ (b : Branch). b.items) (same_Some branch h.has.branch (sym known ∙ h.has.runs.known)) ∙ h.has.runs.items_are
+  abbrev at_end : AtEnd thread_at h.on.channel h.on.side between
+  at_end = start.at_end branch_at on none (puts_out o v) j h
 
-  has : Has g r branch.items (record { core = a; world = x.state; hand = None })
-  has = subst (λ items. Has g r items (record { core = a; world = x.state; hand = None })) (sym begins_with) h.has
-
-  to_do : Runs x.state r.branch branch (does (kernel.output o) ∷ h.rest)
-  to_do = record { known = known; running = on; items_are = begins_with }
-
-  pub stands : side_of branch h.on.channel ≡ Some h.on.side
-  stands = ap (λ l. slice_index_or l h.on.channel None) stand.sides ∙ h.on.stands_in
+  stands : side_of branch h.on.channel ≡ Some h.on.side
+  stands = start.stands branch_at on none (puts_out o v) j h
 
   outside : branch.inside ≡ []
-  outside = st.plain.outside r.branch branch known
-
-  pub is_channel : IsChannel g r h.on.channel
-  is_channel = subst (PutsOutAt g r) h.on.is_channel h.fits.0.0.to
-
-  pub uses : IsTrue (by_items (channel h.on.channel) branch.items)
-  uses =
-      subst (λ items. IsTrue (by_items (channel h.on.channel) items)) (sym begins_with)
-      (or_left _ (by_items (channel h.on.channel) h.rest)
-      (or_left (by_resource (channel h.on.channel) o.resource) _ (ap (by_resource (channel h.on.channel)) h.on.is_channel ∙ same_number h.on.channel)))
-
-  abbrev at_end : AtEnd thread_at h.on.channel h.on.side between
-  at_end = begins_there thread_at none branch known on h.on.channel h.on.side is_channel uses stands
+  outside = start.outside branch_at on none (puts_out o v) j h
 
   -- the branch offers its word, and waits
   abbrev items : List Item
@@ -106,10 +87,10 @@ module _ {moment : Moment none_rests} {thread_at : ThreadAt moment None} (branch
     items = items;
     made = None;
     world = offered g.program g.stimulus r.branch x.state branch h.on.channel h.on.side h.rest stands outside o.pos v;
-    acted = offers_word g.program g.stimulus r.branch x.state branch h.on.channel h.on.side h.rest stands outside o v h.on.is_channel h.ready to_do;
+    acted = offers_word g.program g.stimulus r.branch x.state branch h.on.channel h.on.side h.rest stands outside o v h.on.is_channel h.ready (start.to_do branch_at on none (puts_out o v) j h);
     is_next = record { clocks = refl; branches = refl; store = λ k e. refl; trace = refl };
     store = refl;
-    has = has;
+    has = start.has branch_at on none (puts_out o v) j h;
     unwatched = refl;
     transfer = Some transfer;
   }
@@ -127,7 +108,7 @@ module _ {moment : Moment none_rests} {thread_at : ThreadAt moment None} (branch
       regs = h.regs;
       here = gone_on g r a h.pc h.regs h.regs h.here es;
       steps = offer_sent g r h.on.channel h.on.side o.pos (IsBehind g r h.rest j) h.pc h.regs v h.steps;
-      fits = (is_channel, h.fits.1);
+      fits = (start.is_channel branch_at on none (puts_out o v) j h, h.fits.1);
       has = has_behind does_offer es;
     }
 

@@ -45,6 +45,7 @@ use Rattle.xr_threads.proofs.ChannelEnds.{end, near_end}
 use Rattle.xr_threads.proofs.Evaluations.{item_acts}
 use Rattle.xr_threads.proofs.Moments.{Moment, ThreadAt}
 use Rattle.xr_threads.proofs.Moves.{works_at}
+use Rattle.xr_threads.proofs.PieceStarts.{piece_channel, piece_uses}
 use Rattle.xr_threads.proofs.QuietSides.{IsStuck, awaiting_sent, checks_wait, each_stuck, sends_wait, word_waits}
 use Rattle.xr_threads.proofs.TransferBegins as begins
 use Rattle.xr_threads.proofs.TransferBegins.{core_there, line_there, spot_there}
@@ -57,14 +58,6 @@ use Rattle.xr_wires.proofs.NearPauses.{Goes, chkct_ack_paused, chkct_end_paused,
 use Rattle.xr_wires.proofs.NearPlain.{has_credit, has_credits, nothing_came, nothing_owed}
 use Rattle.xr_wires.proofs.PlainSides.{IsPlain}
 use Rattle.xr_wires.proofs.Sources.{answer_waits, input_waits}
-
--- an output uses its channel
-output_uses : (c : ℕ) (o : kernel.Output) (rest : List Item) → o.resource ≡ Chan c → IsTrue (by_items (the_channel c) (does (kernel.output o) ∷ rest))
-output_uses c o rest is = or_left _ (by_items (the_channel c) rest) (or_left (by_resource (the_channel c) o.resource) _ (ap (by_resource (the_channel c)) is ∙ same_number c))
-
--- and so does an input
-input_uses : (c : ℕ) (i : kernel.Input) (rest : List Item) → i.resource ≡ Chan c → IsTrue (by_items (the_channel c) (does (kernel.input i) ∷ rest))
-input_uses c i rest is = or_left _ (by_items (the_channel c) rest) (or_left (by_resource (the_channel c) i.resource) _ (ap (by_resource (the_channel c)) is ∙ same_number c))
 
 -- A branch whose first item isn't a select can do nothing where that item can't be done.
 module _ (g : Setting) (r : Runner) (x : World) (branch : Branch) (item : Item) (rest : List Item) (h : Runs x r.branch branch (item ∷ rest)) where
@@ -216,8 +209,8 @@ module _ (moment : Moment none_rests)
     offers_goes j none o v h =
         let channel = h.on.channel in
         let side = h.on.side in
-        let used = subst (PutsOutAt g r) h.on.is_channel h.fits.0.0.to in
-        let at = begins_on none h.has.branch (does (kernel.output o) ∷ h.rest) h.has.runs channel side used (output_uses channel o h.rest h.on.is_channel) h.on.stands_in in
+        let used = piece_channel g r (puts_out o v) h.rest channel h.on.is_channel h.fits in
+        let at = begins_on none h.has.branch (does (kernel.output o) ∷ h.rest) h.has.runs channel side used (piece_uses (puts_out o v) h.rest channel h.on.is_channel) h.on.stands_in in
         four_sent channel side at.line at.is_line at.on_core at.spot_is
         (sends_wait moment quiet thread_at channel side at.line at.is_line at.on_core o.pos h.pc h.regs h.here (word_tokens v) h.steps.0)
 
@@ -227,8 +220,8 @@ module _ (moment : Moment none_rests)
         let channel = h.on.channel in
         let side = h.on.side in
         let runs = h.has.runs in
-        let used = subst (TakesInAt g r) h.on.is_channel h.fits.0.0.from in
-        let at = begins_on none h.has.branch (does (kernel.input i) ∷ h.rest) runs channel side used (input_uses channel i h.rest h.on.is_channel) h.on.stands_in in
+        let used = piece_channel g r (takes_in i) h.rest channel h.on.is_channel h.fits in
+        let at = begins_on none h.has.branch (does (kernel.input i) ∷ h.rest) runs channel side used (piece_uses (takes_in i) h.rest channel h.on.is_channel) h.on.stands_in in
         let slow = word_waits moment quiet thread_at channel side at.line at.is_line at.on_core i.pos h.pc h.regs h.here R0 h.steps.0 in
         let nothing = its_inbox channel side at.line at.is_line at.on_core (no_word channel side at.line at.is_line at.on_core at.spot_is slow.0 slow.1) in
         input_cannot g r x.state h.has.branch (does (kernel.input i)) h.rest runs channel side (stands_on h.has.branch runs.known channel side h.on.stands_in) (st.plain.outside r.branch h.has.branch runs.known) nothing i refl h.on.is_channel
