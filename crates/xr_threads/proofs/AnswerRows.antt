@@ -34,7 +34,6 @@ use Rattle.xr_threads.proofs.EndRows.{AtEnd, Goal, acts_row, boxes_taken, checks
 use Rattle.xr_threads.proofs.EndSteps as step
 use Rattle.xr_threads.proofs.EndSteps.{gone_on}
 use Rattle.xr_threads.proofs.Evaluations.{err_acts}
-use Rattle.xr_threads.proofs.InTransfers.{IsFollowed, followed, line_is, moves_out, on_core, own_line, pauses, spot_is}
 use Rattle.xr_threads.proofs.Lines.{line_known}
 use Rattle.xr_threads.proofs.Moments.{BranchAt, Moment, ThreadAt}
 use Rattle.xr_threads.proofs.OwnEvents.{rests_alone, rests_there}

@@ -70,24 +70,24 @@ pub begins_there : {moment : Moment none_rests} (thread_at : ThreadAt moment Non
     AtEnd thread_at channel side between
 begins_there {moment} thread_at none branch known on channel side is_channel uses stands =
     record {
-      line = begin.line moment c t r None runs_r none branch known on channel side is_channel uses stands;
-      is_line = begin.line_there moment c t r None runs_r none branch known on channel side is_channel uses stands;
-      on_core = begin.core_there moment c t r None runs_r none branch known on channel side is_channel uses stands;
-      stands = begin.spot_there moment c t r None runs_r none branch known on channel side is_channel uses stands;
+      line = begin.line thread_at none branch known on channel side is_channel uses stands;
+      is_line = begin.line_there thread_at none branch known on channel side is_channel uses stands;
+      on_core = begin.core_there thread_at none branch known on channel side is_channel uses stands;
+      stands = begin.spot_there thread_at none branch known on channel side is_channel uses stands;
       moves = moves_by;
-      alone = begin.alone_there moment c t r None runs_r none branch known on channel side is_channel uses stands;
+      alone = begin.alone_there thread_at none branch known on channel side is_channel uses stands;
     }
   where
     open moment use {setting as g, roles as who}
     open thread_at use {core as c, thread as t, runner as r, runs as runs_r}
 
     moves_by : (s : Runner) (later : Phase) → IsThen channel side s.transfer later → Moves g who c t r s channel side later
-    moves_by s later (stays_in e) = begin.begins moment c t r None runs_r none branch known on channel side is_channel uses stands s later e
+    moves_by s later (stays_in e) = begin.begins thread_at none branch known on channel side is_channel uses stands s later e
     moves_by s later (goes_out e f) = record {
       old = λ transfer was. absurd (none-some transfer (sym none ∙ was));
       new = λ transfer its. absurd (none-some transfer (sym e ∙ its));
       over = λ out. f;
-      mine = λ d u other. absurd (begin.nobody moment c t r None runs_r none branch known on channel side is_channel uses stands d u other);
+      mine = λ d u other. absurd (begin.nobody thread_at none branch known on channel side is_channel uses stands d u other);
     }
 
 -- inside a piece
@@ -95,10 +95,10 @@ pub inside_there : {moment : Moment none_rests} (thread_at : ThreadAt moment Non
     thread_at.runner.transfer ≡ Some (in_phase channel side phase) → AtEnd thread_at channel side phase
 inside_there {moment} thread_at channel side phase its =
     record {
-      line = own_line g none_rests who w x st c t r None runs_r channel side phase its;
-      is_line = line_is g none_rests who w x st c t r None runs_r channel side phase its;
-      on_core = on_core g none_rests who w x st c t r None runs_r channel side phase its;
-      stands = spot_is g none_rests who w x st c t r None runs_r channel side phase its;
+      line = own_line thread_at channel side phase its;
+      is_line = line_is thread_at channel side phase its;
+      on_core = on_core thread_at channel side phase its;
+      stands = spot_is thread_at channel side phase its;
       moves = moves_by;
       alone = st.alone c t r None (in_phase channel side phase) runs_r its;
     }
@@ -107,9 +107,9 @@ inside_there {moment} thread_at channel side phase its =
     open thread_at use {core as c, thread as t, runner as r, runs as runs_r}
 
     moves_by : (s : Runner) (later : Phase) → IsThen channel side s.transfer later → Moves g who c t r s channel side later
-    moves_by s later (stays_in e) = moves_on g none_rests who w x st c t r None runs_r channel side phase its s later e
+    moves_by s later (stays_in e) = moves_on thread_at channel side phase its s later e
     moves_by s later (goes_out e f) =
-        subst (Moves g who c t r s channel side) (sym f) (moves_out g none_rests who w x st c t r None runs_r channel side phase its s e)
+        subst (Moves g who c t r s channel side) (sym f) (moves_out thread_at channel side phase its s e)
 
 -- where a thread is inside something then, its branch has that side for itself
 alone_then : (channel : ℕ) (side : Side) (later : Phase) (transfer : Option Transfer) → IsThen channel side transfer later → (bs : List Branch) (b : ℕ) →

@@ -50,8 +50,11 @@ pub data IsFollowed (g : Setting) (who : Roles) (w : Watched) (x : Told (of_kern
       Follows g may_rest who w x (watched_after w (Step c t) (behind_step w.machine c left made sent)) →
       IsFollowed g who w x c t r a did
 
-module _ (g : Setting) (may_rest : (core thread : ℕ) → Bool) (who : Roles) (w : Watched) (x : Told (of_kernel g.program)) (st : Standing g may_rest who w x)
-    (c t : ℕ) (r : Runner) (hand : Option Hand) (runs_r : who c t ≡ used_by r hand) (channel : ℕ) (side : Side) (phase : Phase) (its : r.transfer ≡ Some (in_phase channel side phase)) where
+module _ {may_rest : (core thread : ℕ) → Bool} {moment : Moment may_rest} {hand : Option Hand} (thread_at : ThreadAt moment hand)
+    (channel : ℕ) (side : Side) (phase : Phase) (its : thread_at.runner.transfer ≡ Some (in_phase channel side phase)) where
+  open moment use {setting as g, roles as who, watched as w, told as x, standing as st}
+  open thread_at use {core as c, thread as t, runner as r, runs as runs_r}
+
   pub is_in : IsTransferring who c t channel side
   is_in = record { runner = r; hand = hand; runs = runs_r; transfer = in_phase channel side phase; is = its; channel_is = refl; side_is = refl }
 

@@ -116,12 +116,12 @@ module _ (moment : Moment none_rests)
 
     -- the thread's slot is no step
     not_made : (left : CoreState) (made : Option Record) → slot (home g r) a r.thread ≡ Made left made [] → ⊥
-    not_made left made h = slots.not_made g none_rests who w x st quiet c t r hand runs_r a at_c left made h
+    not_made left made h = slots.not_made thread_at quiet left made h
 
     -- so its turn is a pause, or it waits for a word, and the branch waits
     turn_cannot : (j : ℕ) → r.transfer ≡ None → Turn g r j now → CannotAct g r x.state
     turn_cannot j none (pauses p cannot) = cannot
-    turn_cannot j none (errs h) = absurd (slots.not_trapped g none_rests who w x st quiet c t r hand runs_r a at_c h.kind h.traps)
+    turn_cannot j none (errs h) = absurd (slots.not_trapped thread_at quiet h.kind h.traps)
     turn_cannot j none (goes_on h) = absurd (not_made h.left h.made h.made_is)
     turn_cannot j none (frees h) = absurd (not_made h.left None h.made_is)
     turn_cannot j none (waits_tied h) = absurd (not_made h.left None h.made_is)

@@ -192,10 +192,10 @@ module _ (moment : Moment none_rests)
     begins_on : r.transfer ≡ None → (branch : Branch) (items : List Item) → Runs x.state r.branch branch items → (channel : ℕ) (side : Side) → IsChannel g r channel →
         IsTrue (by_items (the_channel channel) items) → slice_index_or r.sides channel None ≡ Some side → BeginsOn channel side
     begins_on none branch items on channel side used uses stands_in = record {
-      line = begins.line moment c t r hand runs_r none branch on.known on.running channel side used its_use stands;
-      is_line = line_there moment c t r hand runs_r none branch on.known on.running channel side used its_use stands;
-      on_core = core_there moment c t r hand runs_r none branch on.known on.running channel side used its_use stands;
-      spot_is = spot_there moment c t r hand runs_r none branch on.known on.running channel side used its_use stands;
+      line = begins.line thread_at none branch on.known on.running channel side used its_use stands;
+      is_line = line_there thread_at none branch on.known on.running channel side used its_use stands;
+      on_core = core_there thread_at none branch on.known on.running channel side used its_use stands;
+      spot_is = spot_there thread_at none branch on.known on.running channel side used its_use stands;
     }
       where
         stands : side_of branch channel ≡ Some side

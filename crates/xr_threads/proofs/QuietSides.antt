@@ -121,17 +121,17 @@ module _ (moment : Moment none_rests)
     -- one that sends lacks credits
     pub sends_wait : (ks : List Token) → Acts (home g r) r.thread (end_place g r channel side) thread pos (sends ks) pc regs → nat_le (length ks) own_end.credits ≡ false
     sends_wait ks h =
-        lacks_credits g none_rests who w x st quiet c t r hand runs_r a at_c (goes_with put_ends a r.thread thread) ks place_end own_end ((acts_so (sends ks) h).by a own_end here there)
+        lacks_credits thread_at quiet (goes_with put_ends a r.thread thread) ks place_end own_end ((acts_so (sends ks) h).by a own_end here there)
 
     -- one that awaits a control token has none
     pub checks_wait : (n : ℕ) → Acts (home g r) r.thread (end_place g r channel side) thread pos (protocol.takes n) pc regs → own_end.tokens ≡ []
     checks_wait n h =
-        lacks_tokens g none_rests who w x st quiet c t r hand runs_r a at_c (goes_with put_ends a r.thread thread) n place_end own_end ((acts_so (protocol.takes n) h).by a own_end here there)
+        lacks_tokens thread_at quiet (goes_with put_ends a r.thread thread) n place_end own_end ((acts_so (protocol.takes n) h).by a own_end here there)
 
     -- one that awaits a word has fewer tokens than one
     pub word_waits : (to : Reg) → Acts (home g r) r.thread (end_place g r channel side) thread pos (takes_word to) pc regs → (take_word own_end.tokens ≡ NotYet) × (length own_end.tokens < 4)
     word_waits to h =
-        lacks_word g none_rests who w x st quiet c t r hand runs_r a at_c (gets_with put_ends a r.thread thread to) place_end own_end ((acts_so (takes_word to) h).by a own_end here there)
+        lacks_word thread_at quiet (gets_with put_ends a r.thread thread to) place_end own_end ((acts_so (takes_word to) h).by a own_end here there)
 
     -- so no row of a piece that it is in is enabled
     none_enabled : (f : Phase) (items : List Item) (Q : ℕ → Regs → Type 0) → GoesWith f channel pos items → TakesSteps g r channel side pos (acts_left f) Q pc regs → ghosts.spots line side ≡ spot f false →

@@ -18,7 +18,7 @@ use Rattle.xr_match.specs.Meanings.{of_kernel}
 use Rattle.xr_match.specs.Sources.{Told}
 use Rattle.xr_threads.specs.Roles.{Roles, used_by}
 use Rattle.xr_threads.specs.Runners.{Runner, Setting, home}
-use Rattle.xr_threads.specs.Standing.{Standing}
+use Rattle.xr_threads.proofs.Moments.{Moment, ThreadAt}
 
 -- a turn that leaves no machine is no step
 no_step_left : (h : Home) (m : Machine) (c t : ℕ) (a : CoreState) (did : Did CoreState) → stepped h m c t a did ≡ None → is_step did ≡ false
@@ -68,8 +68,11 @@ word_waits h gone (Word v) e = cc
 word_waits h gone (Control c) e = cc
 word_waits h gone NotYet e = refl
 
-module _ (g : Setting) (may_rest : (core thread : ℕ) → Bool) (who : Roles) (w : Watched) (x : Told (of_kernel g.program)) (st : Standing g may_rest who w x)
-    (quiet : IsQuietMachine g.image g.stimulus w.machine) (c t : ℕ) (r : Runner) (hand : Option Hand) (runs_r : who c t ≡ used_by r hand) (a : CoreState) (at_c : slice_get w.machine.cores c ≡ Some a) where
+module _ {may_rest : (core thread : ℕ) → Bool} {moment : Moment may_rest} {hand : Option Hand} (thread_at : ThreadAt moment hand)
+    (quiet : IsQuietMachine moment.setting.image moment.setting.stimulus moment.watched.machine) where
+  open moment use {setting as g, roles as who, watched as w, told as x, standing as st}
+  open thread_at use {core as c, thread as t, state as a, at_core as at_c, runner as r, runs as runs_r}
+
   -- the thread's slot is no step
   pub no_step : is_step (slot (home g r) a r.thread) ≡ false
   no_step =

@@ -19,7 +19,7 @@ use Rattle.xr_threads.specs.Standing.{Standing}
 use Rattle.xr_threads.specs.Transfers.{in_phase}
 use Rattle.xr_threads.specs.Wired.{AreSidesOn, HasAlone, IsLine, IsTransferring}
 use Rattle.xr_threads.proofs.Alone.{alone_begins, alone_excludes}
-use Rattle.xr_threads.proofs.Moments.{Moment}
+use Rattle.xr_threads.proofs.Moments.{Moment, ThreadAt}
 use Rattle.xr_threads.proofs.Moves.{same_runner, works_at}
 use Rattle.xr_threads.proofs.WiredMoves.{Moves}
 use Rattle.xr_threads.proofs.Wiring.{wired_between}
@@ -30,12 +30,13 @@ not_other : (side : Side) → ◌≡◌ {A = Option Side} (Some side) (Some (oth
 not_other first e = cc
 not_other second e = cc
 
-module _ {may_rest : (core thread : ℕ) → Bool} (moment : Moment may_rest)
-    (c t : ℕ) (r : Runner) (hand : Option Hand) (runs_r : moment.roles c t ≡ used_by r hand) (outside : r.transfer ≡ None)
-    (branch : Branch) (known : slice_get moment.told.state.branches r.branch ≡ Some branch) (on : branch.mode ≡ runs) (d : ℕ)
-    (side : Side) (is_channel : IsChannel moment.setting r d) (uses : IsTrue (by_items (channel d) branch.items))
+module _ {may_rest : (core thread : ℕ) → Bool} {moment : Moment may_rest} {hand : Option Hand} (thread_at : ThreadAt moment hand)
+    (outside : thread_at.runner.transfer ≡ None)
+    (branch : Branch) (known : slice_get moment.told.state.branches thread_at.runner.branch ≡ Some branch) (on : branch.mode ≡ runs) (d : ℕ)
+    (side : Side) (is_channel : IsChannel moment.setting thread_at.runner d) (uses : IsTrue (by_items (channel d) branch.items))
     (stands : side_of branch d ≡ Some side) where
   open moment use {setting as g, image as is, roles as who, watched as w, told as x, standing as st}
+  open thread_at use {core as c, thread as t, runner as r, runs as runs_r}
 
   awake : IsWaiting branch.mode → ⊥
   awake h = subst IsWaiting on h

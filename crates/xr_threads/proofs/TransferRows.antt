@@ -33,7 +33,6 @@ use Rattle.xr_threads.proofs.Answers as answers
 use Rattle.xr_threads.proofs.EndRows.{AtEnd, Goal, boxes, ends_row, goes_out, goes_row, inside_there, near_end, sends_row, stays_in}
 use Rattle.xr_threads.proofs.EndSteps as step
 use Rattle.xr_threads.proofs.EndSteps.{gone_on}
-use Rattle.xr_threads.proofs.InTransfers.{IsFollowed, followed, goes_on_so, line_is, moves_on, moves_out, on_core, own_line, pauses, spot_is}
 use Rattle.xr_threads.proofs.Moments.{BranchAt, Moment, ThreadAt}
 use Rattle.xr_threads.proofs.OwnEvents.{rests_alone, rests_there}
 use Rattle.xr_threads.proofs.Protocols.{ack_sent, end_sent, end_taken}
