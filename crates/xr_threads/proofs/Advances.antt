@@ -10,14 +10,11 @@ use Rattle.xc_meaning.specs.States.Worlds.{World}
 use Rattle.xl_expr.proofs.Lists.{get_set_same}
 use Rattle.xl_par.specs.Hands.{Hand, IsAmong}
 use Rattle.xr_match.specs.Lives.{Watched}
-use Rattle.xr_match.specs.Meanings.{of_kernel}
-use Rattle.xr_match.specs.Sources.{Told}
 use Rattle.xr_match.specs.Systems.{SomeIs}
-use Rattle.xr_threads.specs.Images.{IsImageOf}
 use Rattle.xr_threads.specs.Roles.{IsParent, Roles, got_by, own_branches, used_by}
 use Rattle.xr_threads.specs.Runners.{Setting, Runner}
 use Rattle.xr_threads.specs.ThreadViews.{Guarantee, giving_back}
-use Rattle.xr_threads.specs.Standing.{AreLoose, IsRun, Stand, Standing, Stands, none_rests}
+use Rattle.xr_threads.specs.Standing.{AreLoose, IsRun, Stand, Stands, none_rests}
 use Rattle.xr_threads.specs.Transfers.{Transfer}
 use Rattle.xr_threads.specs.Wired.{AreWired, HasAlone}
 use Rattle.xr_threads.proofs.Moments.{Moment, ThreadAt}

@@ -144,7 +144,9 @@ module _ (g : Setting) (who : Roles) (first_roles : Roles) (is : IsImageOf g fir
   ticked_by w x st c a at_c cores y next still e true lt =
       let program = has_acted (moment_of g first_roles is who w x st) c a at_c lt in
       let machine : does g.image g.stimulus w.machine (Tick c) ≡ Some (record w.machine { cores = slice_set w.machine.cores c (ticked a) }) = ap (tick_at w.machine c) at_c ∙ ap (tick_by w.machine c a) lt in
-      next (watched_ticked (moment_of g first_roles is who w x st) c a at_c) (told_ticked (moment_of g first_roles is who w x st) c a at_c) (stands_after_tick (moment_of g first_roles is who w x st) c a at_c lt)
+      next (watched_ticked (moment_of g first_roles is who w x st) c a at_c)
+      (told_ticked (moment_of g first_roles is who w x st) c a at_c)
+      (stands_after_tick (moment_of g first_roles is who w x st) c a at_c lt)
       (record { quiet = λ m runs_to. still.quiet m (ap (λ (o : Option Machine). and_then o (λ n. runs g.image g.stimulus n (map Tick cores))) machine ∙ runs_to) })
       (sym (ap (λ (o : Option World). and_then o (λ z. allowed (of_kernel g.program) g.stimulus z (map clock cores))) program) ∙ e)
   ticked_by w x st c a at_c cores y next still e false ge =
@@ -168,7 +170,8 @@ module _ (g : Setting) (who : Roles) (first_roles : Roles) (is : IsImageOf g fir
       nothing f = cc
 
   quiet_behind : (cores : List ℕ) (y : World) (w : Watched) (x : Told (of_kernel g.program)) → Standing g none_rests who w x → IsQuietBehind g.image g.stimulus w.machine cores → allowed (of_kernel g.program) g.stimulus x.state (map clock cores) ≡ Some y → IsQuiet g.program g.stimulus y
-  quiet_behind [] y w x st still e = subst (IsQuiet g.program g.stimulus) (same_Some _ _ e) (quiet_together (moment_of g first_roles is who w x st) (still.quiet w.machine refl))
+  quiet_behind [] y w x st still e = subst (IsQuiet g.program g.stimulus) (same_Some _ _ e)
+      (quiet_together (moment_of g first_roles is who w x st) (still.quiet w.machine refl))
   quiet_behind (c ∷ cores) y w x st still e = ticks_by w x st c cores y (quiet_behind cores y) still e (slice_get w.machine.cores c) refl
 
 -- where the machine is quiet behind some ticks, so is the program

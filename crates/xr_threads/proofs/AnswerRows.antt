@@ -1,40 +1,25 @@
 -- CHKCT ACK of an output: the answer is taken and the transfer is over; or another parcel stood first, and the branch errs.
-use Rattle.std.proofs.Common.{◌≡◌, ℕ, ◌+◌, ◌<◌, ◌≤◌, inr, List, [], ◌∷◌, length, Some, None, refl, sym, ap, ◌∙◌, subst, arith}
-use Rattle.std.specs.Prelude.{false, nat_eq, slice_get, slice_index_or, slice_set}
-use Rattle.std.proofs.lemmas.Option.{none-some}
+use Rattle.std.proofs.Common.{◌≡◌, ℕ, ◌+◌, ◌≤◌, inr, List, [], ◌∷◌, length, Some, None, refl, sym, ap, ◌∙◌, subst, arith}
+use Rattle.std.specs.Prelude.{false, nat_eq, slice_index_or}
 use Rattle.xs_instr.specs.declared.state.ChanEnd.{ChanEnd}
-use Rattle.xs_instr.specs.declared.state.CoreState.{CoreState}
-use Rattle.xs_instr.specs.declared.state.Thread.{Thread}
 use Rattle.xs_instr.specs.declared.trace.Trap.TheVariants.{Mismatch}
 use Rattle.xs_instr.specs.Did.{Made, Traps}
-use Rattle.xs_instr.specs.Machine.{stepped}
 use Rattle.xs_instr.specs.Slot.{slot}
-use Rattle.xc_meaning.specs.Runs.{acts}
-use Rattle.xc_meaning.specs.States.Branches.{Branch, runs, side_of}
-use Rattle.xc_meaning.specs.States.Channels.{Inboxes, Parcel, Side, taken}
+use Rattle.xc_meaning.specs.States.Branches.{runs, side_of}
+use Rattle.xc_meaning.specs.States.Channels.{Parcel, Side, taken}
 use Rattle.xc_meaning.specs.States.Items.{Item, awaits}
-use Rattle.xc_meaning.specs.States.Worlds.{World, go}
-use Rattle.xl_chan.specs.Protocols.{takes}
-use Rattle.xl_image.specs.Images.{pair_of}
-use Rattle.xr_match.specs.Lives.{Watched}
-use Rattle.xr_match.specs.Meanings.{of_kernel}
-use Rattle.xr_match.specs.Sources.{Told}
+use Rattle.xc_meaning.specs.States.Worlds.{World}
 use Rattle.xr_threads.specs.Fits.{ItemsFit}
-use Rattle.xr_threads.specs.Images.{IsImageOf}
-use Rattle.xr_threads.specs.Roles.{Roles, used_by}
-use Rattle.xr_threads.specs.Runners.{Runner, Setting, footprint_of, home, shrunk}
-use Rattle.xr_threads.specs.ThreadViews.{ThreadView, running}
-use Rattle.xr_threads.specs.Standing.{IfTrue, IsAtRest, Stand, Standing, StandsWith, none_rests}
+use Rattle.xr_threads.specs.Runners.{home, shrunk}
+use Rattle.xr_threads.specs.ThreadViews.{running}
+use Rattle.xr_threads.specs.Standing.{IfTrue, IsAtRest, StandsWith, none_rests}
 use Rattle.xr_threads.specs.Transfers.{StopsIn, all_but_first, in_phase}
-use Rattle.xr_threads.specs.Turns.{Errs, InTransfer, IsBehind, IsNext, Runs, cost, is_watching}
-use Rattle.xr_threads.specs.Wired.{AreSidesOn, IsLine, boxes_in}
-use Rattle.xr_threads.proofs.ChannelBoxes.{line_boxed, line_parcels}
+use Rattle.xr_threads.specs.Turns.{Errs, InTransfer, IsBehind, Runs, cost}
+use Rattle.xr_threads.specs.Wired.{boxes_in}
 use Rattle.xr_threads.proofs.ChannelWorlds.{answered, answered_boxes, awaiting_errs, takes_answer}
 use Rattle.xr_threads.proofs.EndRows.{AtEnd, Goal, acts_row, boxes_taken, checks_row, goes_out, inside_there, near_end, taken_there}
-use Rattle.xr_threads.proofs.EndSteps as step
 use Rattle.xr_threads.proofs.EndSteps.{gone_on}
 use Rattle.xr_threads.proofs.Evaluations.{err_acts}
-use Rattle.xr_threads.proofs.Lines.{line_known}
 use Rattle.xr_threads.proofs.Moments.{BranchAt, Moment, ThreadAt}
 use Rattle.xr_threads.proofs.OwnEvents.{rests_alone, rests_there}
 use Rattle.xr_threads.proofs.OwnTransfers as own
@@ -45,20 +30,18 @@ use Rattle.xr_threads.proofs.TransferErrs.{errs_followed}
 use Rattle.xr_threads.proofs.TransferRows.{alone_elsewhere}
 use Rattle.xr_threads.proofs.Transferred.{rest_as}
 use Rattle.xr_threads.proofs.Watching.{here_at}
-use Rattle.xr_threads.proofs.WiredMoves.{one_line, wired_moves}
-use Rattle.xr_wires.specs.Balance.{Local}
 use Rattle.xr_wires.specs.Phases.{awaits_ack, between, offers, spot}
 use Rattle.xr_wires.proofs.Frames.{boxed, length_box, parcels}
 use Rattle.xr_wires.proofs.Near as near
 use Rattle.xr_wires.proofs.Near.{NearCheck, NearEnd, Next, checks_makes, checks_pauses, checks_traps}
 use Rattle.xr_wires.proofs.Seen.{is_taken}
-use Rattle.xr_wires.proofs.Updates.{moved_to}
 
 module _ {moment : Moment none_rests} {thread_at : ThreadAt moment None} (branch_at : BranchAt thread_at)
     (on : branch_at.branch.mode ≡ runs) (channel : ℕ) (side : Side) (v : ℕ)
     (its : thread_at.runner.transfer ≡ Some (in_phase channel side (awaits_ack (offers v)))) (j : ℕ)
     (few : 1 + j + cost moment.setting thread_at.runner ≤ branch_at.stand.left)
-    (h : InTransfer moment.setting thread_at.runner (in_phase channel side (awaits_ack (offers v))) branch_at.branch.items j (record { core = thread_at.state; world = moment.told.state; hand = None })) where
+    (h : InTransfer moment.setting thread_at.runner (in_phase channel side (awaits_ack (offers v))) branch_at.branch.items j
+    (record { core = thread_at.state; world = moment.told.state; hand = None })) where
   open moment use {setting as g, first, image as is, roles as who, watched as w, told as x, standing as st}
   open thread_at use {core as c, thread as t, state as a, at_core as at_c, runner as r, runs as runs_r}
   open branch_at use {branch, known, stand}
@@ -112,7 +95,8 @@ module _ {moment : Moment none_rests} {thread_at : ThreadAt moment None} (branch
       -- the thread is at the code of what is left
       at_rest : StandsWith g (own.s does_answer) (rests_alone c t c t) None rest (j + cost g r) (behind does_answer es)
       at_rest =
-          inr (inr (subst (λ b. IfTrue g (own.s does_answer) b (IsAtRest g (own.s does_answer) rest (j + cost g r) (behind does_answer es))) (sym (rests_there c t)) (
+          inr (inr (subst (λ b. IfTrue g (own.s does_answer) b
+          (IsAtRest g (own.s does_answer) rest (j + cost g r) (behind does_answer es))) (sym (rests_there c t)) (
             j,
             omega arith,
             refl,
@@ -129,14 +113,17 @@ module _ {moment : Moment none_rests} {thread_at : ThreadAt moment None} (branch
           )))
 
     made_so : (es : List ChanEnd) → slot (home g r) a r.thread ≡ Made (left does_answer es) None [] →
-        Next (near_end branch_at at_end) r.thread (running r.tie h.pc h.regs) (left does_answer es) (taken_there branch_at at_end ps) (spot between false) → Goal branch_at at_end
+        Next (near_end branch_at at_end) r.thread (running r.tie h.pc h.regs) (left does_answer es) (taken_there branch_at at_end ps)
+        (spot between false) → Goal branch_at at_end
     made_so =
         acts_row branch_at at_end does_answer between (goes_out refl refl) (rests_alone c t) (λ d u ne. alone_elsewhere c (nat_eq u t) d ne)
-        j (j + cost g r) (omega (arith, few)) (omega arith) (taken_there branch_at at_end ps) (ap (boxes_in g.program) world_boxes ∙ boxes_taken branch_at at_end ps)
+        j (j + cost g r) (omega (arith, few)) (omega arith) (taken_there branch_at at_end ps)
+        (ap (boxes_in g.program) world_boxes ∙ boxes_taken branch_at at_end ps)
         (ap length world_boxes ∙ length_box x.state.inboxes channel _) at_rest
 
   -- another parcel stood first
-  errs : (p : Parcel) (ps : List Parcel) → parcels x.state.inboxes channel side ≡ p ∷ ps → is_taken p ≡ false → slot (home g r) a r.thread ≡ Traps Mismatch →
+  errs : (p : Parcel) (ps : List Parcel) → parcels x.state.inboxes channel side ≡ p ∷ ps → is_taken p ≡ false →
+      slot (home g r) a r.thread ≡ Traps Mismatch →
       Errs g r (record { core = a; world = x.state; hand = None })
   errs p ps found wrong traps = record {
     kind = Mismatch;

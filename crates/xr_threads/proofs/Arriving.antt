@@ -192,7 +192,10 @@ module _ (g : Setting) (r : Runner) where
           ∙ h.parts res m s;
       branch = h.branch;
       store = h.store;
-      room = λ was. let same = ap (λ (s : Sizes). s.words) (same_sizes (home g r) y.core r.thread b step.made) in let before = h.room was in omega arith;
+      room = λ was.
+          let same = ap (λ (s : Sizes). s.words) (same_sizes (home g r) y.core r.thread b step.made) in
+          let before = h.room was in
+          omega arith;
       declared = λ q other port is_port there. declared_on z y b h.declared step.made q other port is_port there;
       hand = h.hand;
       on = (own_silent y b h.on step).on;
@@ -245,7 +248,10 @@ module _ (g : Setting) (r : Runner) where
         parts = λ res m s. step.resources.parts res s ∙ h.parts res m s;
         branch = h.branch;
         store = h.store;
-        room = λ was. let same = ap (λ (s : Sizes). s.words) (same_sizes (home g r) y.core r.thread b step.made) in let before = h.room was in omega arith;
+        room = λ was.
+            let same = ap (λ (s : Sizes). s.words) (same_sizes (home g r) y.core r.thread b step.made) in
+            let before = h.room was in
+            omega arith;
         declared = λ q other port is_port there. declared_on z y b h.declared step.made q other port is_port there;
         hand = h.hand;
         on = (parts_silent y b h.on step).on;

@@ -20,12 +20,9 @@ use Rattle.xl_expr.proofs.ResourceParts.{others_same}
 use Rattle.xl_par.specs.Hands.{Hand, IsAmong}
 use Rattle.xl_sides.specs.Ends.{Sides, codes_in}
 use Rattle.xr_match.specs.Lives.{Life, Watched}
-use Rattle.xr_match.specs.Meanings.{of_kernel}
-use Rattle.xr_match.specs.Sources.{Told}
 use Rattle.xr_match.specs.Systems.{SomeIs}
-use Rattle.xr_threads.specs.Images.{IsImageOf}
 use Rattle.xr_threads.specs.Parents.{Parent, branches_of}
-use Rattle.xr_threads.specs.Runners.{Block, Footprint, Setting, Runner, code, footprint_of, outside, places, plan, plan_in}
+use Rattle.xr_threads.specs.Runners.{Block, Footprint, Runner, code, footprint_of, outside, places, plan, plan_in}
 use Rattle.xr_threads.specs.Sizes.{Sizes}
 use Rattle.xr_threads.specs.ThreadViews.{Owns, giving_back, running, sync_in}
 use Rattle.xr_threads.proofs.Counts.{living_after}
@@ -50,7 +47,7 @@ use Rattle.xr_threads.specs.Fits.{FitOn}
 use Rattle.xr_threads.specs.Items.{EndAt, ItemsAt}
 use Rattle.xr_threads.specs.Transfers.{Transfer}
 use Rattle.xr_threads.specs.Roles.{AreRoles, AreUsedSo, HasReserves, IsParent, ParentsWait, Roles, empty, got_by, own_branches, unused, used_by}
-use Rattle.xr_threads.specs.Standing.{AreLoose, IsMade, IsRun, IsWanted, Stand, Standing, Stands, StandsBy, ThreadIs, counts, is_of_root, living_on, none_rests, one_where}
+use Rattle.xr_threads.specs.Standing.{AreLoose, IsMade, IsRun, IsWanted, Stand, Stands, StandsBy, ThreadIs, counts, is_of_root, living_on, none_rests, one_where}
 use Rattle.xr_threads.specs.Turns.{Begins, EndOf, HoldsStore, IsFree, IsSetOff, IsWaitingTied, Placed, Rest, backwards, cost, is_watching, placed_in}
 use Rattle.xr_threads.proofs.Holding.{loose_behind}
 use Rattle.xr_threads.proofs.Joined.{parents_below}

@@ -11,14 +11,9 @@ use Rattle.xl_chan.specs.Protocols.{Act, Acts}
 use Rattle.xl_image.specs.Images.{pair_of}
 use Rattle.xl_par.specs.Hands.{Hand}
 use Rattle.xl_plan.specs.Layout.{end_number}
-use Rattle.xr_match.specs.Lives.{Watched}
-use Rattle.xr_match.specs.Meanings.{of_kernel}
-use Rattle.xr_match.specs.Sources.{Told}
-use Rattle.xr_threads.specs.Images.{IsImageOf}
-use Rattle.xr_threads.specs.Roles.{Roles, used_by}
-use Rattle.xr_threads.specs.Runners.{Setting, Runner, end_place, home}
+use Rattle.xr_threads.specs.Runners.{end_place, home}
 use Rattle.xr_threads.specs.ThreadViews.{running}
-use Rattle.xr_threads.specs.Standing.{Standing, none_rests}
+use Rattle.xr_threads.specs.Standing.{none_rests}
 use Rattle.xr_threads.specs.Wired.{AreSidesOn, IsLine, boxes_in}
 use Rattle.xr_wires.specs.Balance.{Local}
 use Rattle.xr_wires.specs.Phases.{Spot}

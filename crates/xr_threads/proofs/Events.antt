@@ -1,6 +1,6 @@
 -- Each step of a thread is followed by a piece of the program's run, and the two stand as before; some threads may be at rest.
 use Rattle.std.proofs.Common.{◌≡◌, ℕ, zero, suc, ◌+◌, ◌<◌, ◌≤◌, ◌≢◌, ◌⊎◌, inl, inr, [], ◌∷◌, List, Option, Some, None, refl, sym, ap, ◌∙◌, subst, arith}
-use Rattle.std.specs.Prelude.{Bool, true, false, nat_eq, slice_get, slice_set}
+use Rattle.std.specs.Prelude.{Bool, true, false, nat_eq, slice_get}
 use Rattle.std.proofs.lemmas.Option.{same_Some, slice_get_within}
 use Rattle.xs_instr.specs.declared.image.Home.{Home}
 use Rattle.xs_instr.specs.declared.state.CoreState.{CoreState}
@@ -10,7 +10,7 @@ use Rattle.xs_instr.specs.declared.state.Sent.{Sent}
 use Rattle.xs_instr.specs.declared.state.Thread.{Thread}
 use Rattle.xs_instr.specs.declared.trace.Record.{Record}
 use Rattle.xs_instr.specs.Did.{Did, Idle, Paused}
-use Rattle.xs_instr.specs.Machine.{Event, Machine, Move, Step, Tick, does, home_of, link_of, move_at, noted, step_at, stepped, tick_at}
+use Rattle.xs_instr.specs.Machine.{Event, Machine, Move, Step, Tick, does, home_of, link_of, move_at, step_at, stepped, tick_at}
 use Rattle.xs_instr.specs.Pool.{all_wait}
 use Rattle.xs_instr.specs.Slot.{slot, turn_at, turn_of}
 use Rattle.xc_meaning.specs.States.Branches.{Branch, Mode, runs, waits, ended, erred}
@@ -21,12 +21,11 @@ use Rattle.xr_match.specs.Lives.{Life, Watched, watched_after}
 use Rattle.xr_match.specs.Meanings.{of_kernel}
 use Rattle.xr_match.specs.Sources.{Told}
 use Rattle.xr_match.specs.Systems.{SomeIs}
-use Rattle.xr_threads.specs.Images.{IsImageOf}
 use Rattle.xr_threads.specs.Parents.{Parent}
 use Rattle.xr_threads.specs.Roles.{HandFits, Role, Roles, got_by, unused, used_by}
 use Rattle.xr_threads.specs.Runners.{Setting, Runner, footprint_of, home}
 use Rattle.xr_threads.specs.ThreadViews.{IsSilentStep, LeadsIn, Rely, ThreadView, giving_back}
-use Rattle.xr_threads.specs.Standing.{EventsAre, HasEnded, HasThread, Stand, Standing, Stands, StandsBy, StandsWith, ThreadIs, none_rests}
+use Rattle.xr_threads.specs.Standing.{EventsAre, HasEnded, HasThread, Stand, Stands, StandsBy, StandsWith, ThreadIs, none_rests}
 use Rattle.xr_threads.specs.Transfers.{StopsIn, Transfer, steps_left, in_phase}
 use Rattle.xr_threads.specs.Turns.{Communicates, Errs, Frees, GivesBack, Goes, InTransfer, IsFree, IsWaitingTied, Joins, JoinsAt, Piece, Turn, Turns, Waits, begins, communicates, cost, errs, frees, goes_on, pauses, puts_out, takes_in, waits_tied}
 use Rattle.xr_threads.proofs.AnswerRows.{answer_followed}
@@ -38,7 +37,7 @@ use Rattle.xr_threads.proofs.InTransfers.{IsFollowed, behind_step, followed}
 use Rattle.xr_threads.proofs.InputRows.{input_followed}
 use Rattle.xr_threads.proofs.Joined as joined
 use Rattle.xr_threads.proofs.Joined.{joins_followed}
-use Rattle.xr_threads.proofs.Moments.{BranchAt, Moment, ThreadAt, branch_of, moment_of, thread_of}
+use Rattle.xr_threads.proofs.Moments.{BranchAt, Moment, ThreadAt, branch_of, thread_of}
 use Rattle.xr_threads.proofs.Moves.{kept_now, works_at}
 use Rattle.xr_threads.proofs.OfferRows.{offer_followed}
 use Rattle.xr_threads.proofs.OwnEvents.{rests_alone}
@@ -137,11 +136,14 @@ module _ (moment : Moment none_rests)
     here = kept_now moment c t a r hand at_c runs_r
 
     -- the machine is the one behind such a step
-    goal_of : (may_rest : (core thread : ℕ) → Bool) → ((d u : ℕ) → d ≢ c → may_rest d u ≡ false) → (b : CoreState) (made : Option Record) (sent : List Sent) →
+    goal_of : (may_rest : (core thread : ℕ) → Bool) → ((d u : ℕ) → d ≢ c → may_rest d u ≡ false) →
+        (b : CoreState) (made : Option Record) (sent : List Sent) →
         stepped (home g r) w.machine r.core r.thread a (slot (home g r) a r.thread) ≡ Some (behind_step w.machine r.core b made sent) →
-        Leaves (slot (home g r) a r.thread) → Follows g may_rest who w x (watched_after w (Step c t) (behind_step w.machine c b made sent)) → Goal
+        Leaves (slot (home g r) a r.thread) →
+        Follows g may_rest who w x (watched_after w (Step c t) (behind_step w.machine c b made sent)) → Goal
     goal_of may_rest elsewhere b made sent is_step e h =
-        let left_is : Some (behind_step w.machine c b made sent) ≡ Some m = ap (λ k. Some (behind_step w.machine k b made sent)) (sym core_is) ∙ sym is_step ∙ e in
+        let left_is : Some (behind_step w.machine c b made sent) ≡ Some m = ap (λ k. Some (behind_step w.machine k b made sent))
+        (sym core_is) ∙ sym is_step ∙ e in
         record {
           core = c;
           there = st.roles.there c t r hand runs_r;
@@ -176,7 +178,8 @@ module _ (moment : Moment none_rests)
       in_transfer : branch.mode ≡ runs → (channel : ℕ) (side : Side) (phase : Phase) → r.transfer ≡ Some (in_phase channel side phase) → (j : ℕ) → steps_left phase + j + cost g r ≤ stand.left → InTransfer g r (in_phase channel side phase) branch.items j alone → Leaves (slot (home g r) a r.thread) → Goal
       in_transfer on channel side between its j few h e = absurd h.goes_with
       in_transfer on channel side (sends_end v) its j few h e = by_followed (sends_end_followed here_alone on channel side v its j few h) e
-      in_transfer on channel side (awaits_ack (wires.Question.offers v)) its j few h e = by_followed (answer_followed here_alone on channel side v its j few h) e
+      in_transfer on channel side (awaits_ack (wires.Question.offers v)) its j few h e = by_followed
+          (answer_followed here_alone on channel side v its j few h) e
       in_transfer on channel side (awaits_ack opens) its j few h e = absurd h.goes_with
       in_transfer on channel side (awaits_ack closes) its j few h e = absurd h.goes_with
       in_transfer on channel side checks_end its j few h e = by_followed (checks_end_followed here_alone on channel side its j few h) e
@@ -195,7 +198,8 @@ module _ (moment : Moment none_rests)
 
       go_goal : r.transfer ≡ None → (j : ℕ) → j ≤ stand.left → Goes g r j alone → Leaves (slot (home g r) a r.thread) → Goal
       go_goal outside j few h e =
-          goal_of (rests_alone c t) (λ d u ne. alone_elsewhere c (nat_eq u t) d ne) h.left h.made [] (ap (stepped (home g r) w.machine r.core r.thread a) h.made_is) e
+          goal_of (rests_alone c t) (λ d u ne. alone_elsewhere c (nat_eq u t) d ne) h.left h.made []
+          (ap (stepped (home g r) w.machine r.core r.thread a) h.made_is) e
           (goes_answered here_alone outside j few h)
 
       free_goal : r.transfer ≡ None → Frees g r alone → Leaves (slot (home g r) a r.thread) → Goal
@@ -216,11 +220,13 @@ module _ (moment : Moment none_rests)
     at_turn on out j few (frees h) e = free_goal h.no_hand out (subst (λ k. Frees g r (record { core = a; world = x.state; hand = k })) h.no_hand h) e
     at_turn on out j few (waits_tied h) e = wait_goal h.no_hand out (subst (λ k. Waits g r (record { core = a; world = x.state; hand = k })) h.no_hand h) e
     at_turn on out j few (communicates piece h) e =
-        piece_goal h.no_hand out on j few piece (subst (λ k. Communicates g r piece j (record { core = a; world = x.state; hand = k })) h.no_hand h) e
+        piece_goal h.no_hand out on j few piece
+        (subst (λ k. Communicates g r piece j (record { core = a; world = x.state; hand = k })) h.no_hand h) e
     at_turn on out j few (begins h) e =
         let same : branch ≡ h.branch = same_Some branch h.branch (sym known ∙ h.does_par.known) in
         let stand' = stand_of g r false hand a x.state (w.lives c t) x.actions branch h.branch same stand in
-        goal_of (begun.rests thread_here j h) (λ d u ne. alone_elsewhere c (begun.moved thread_here j h u) d ne) (begun.left thread_here j h) None []
+        goal_of (begun.rests thread_here j h) (λ d u ne. alone_elsewhere c (begun.moved thread_here j h u) d ne)
+        (begun.left thread_here j h) None []
         (ap (stepped (home g r) w.machine r.core r.thread a) h.goes) e
         (begins_followed thread_here j h stand' out few)
 
@@ -256,7 +262,8 @@ module _ (moment : Moment none_rests)
         let stand' = stand_as g r false hand (giving_back h.sync) a x.state (w.lives c t) x.actions branch in_hand stand in
         let h' = subst (λ k. GivesBack g r branch.items j (record { core = a; world = x.state; hand = k })) in_hand h in
         let thread' = thread_of moment c t a at_c r (giving_back h.sync) (runs_r ∙ ap (used_by r) in_hand) in
-        goal_of (rests_alone c t) (λ d u ne. alone_elsewhere c (nat_eq u t) d ne) (resumes.left thread' branch known running stand' out j few h') None []
+        goal_of (rests_alone c t) (λ d u ne. alone_elsewhere c (nat_eq u t) d ne)
+        (resumes.left thread' branch known running stand' out j few h') None []
         (ap (stepped (home g r) w.machine r.core r.thread a) (resumes.made_is thread' branch known running stand' out j few h')) e
         (resumes_followed thread' branch known running stand' out j few h')
 
@@ -274,8 +281,10 @@ module _ (moment : Moment none_rests)
       by_join j few h e true sync is_sync wait =
           let none : hand ≡ None = h.no_hand in
           let h' = subst (λ k. JoinsAt g r p ps j (record { core = a; world = x.state; hand = k })) none h in
-          goal_of (rests_alone c t) (λ d u ne. alone_elsewhere c (nat_eq u t) d ne) (joined.left (thread_alone none) p ps parents sync is_sync branch known over wait j (stand_alone none) few h') None []
-          (ap (stepped (home g r) w.machine r.core r.thread a) (joined.made_is (thread_alone none) p ps parents sync is_sync branch known over wait j (stand_alone none) few h')) e
+          goal_of (rests_alone c t) (λ d u ne. alone_elsewhere c (nat_eq u t) d ne)
+          (joined.left (thread_alone none) p ps parents sync is_sync branch known over wait j (stand_alone none) few h') None []
+          (ap (stepped (home g r) w.machine r.core r.thread a)
+          (joined.made_is (thread_alone none) p ps parents sync is_sync branch known over wait j (stand_alone none) few h')) e
           (joins_followed (thread_alone none) p ps parents sync is_sync branch known over wait j (stand_alone none) few h')
 
       by_joining : (n j : ℕ) → n + j ≤ stand.left → LeadsIn g r (Joins g r p ps j) n now → Leaves (slot (home g r) a r.thread) → Goal
@@ -303,7 +312,8 @@ module _ (moment : Moment none_rests)
     by_transfer running None out (inr (inl (j, few, h))) e = by_resuming running out j few h e
     by_transfer running None out (inr (inr h)) e = absurd h
     by_transfer running (Some transfer) its (j, few, h) e =
-        let on_time : transfer ≡ in_phase transfer.channel transfer.side transfer.phase = ap (λ l. record transfer { late = l }) h.on_time in
+        let on_time : transfer ≡ in_phase transfer.channel transfer.side transfer.phase = ap
+        (λ l. record transfer { late = l }) h.on_time in
         let h' = subst (λ k. InTransfer g r transfer branch.items j (record { core = a; world = x.state; hand = k })) h.no_hand h in
         in_transfer h.no_hand running transfer.channel transfer.side transfer.phase (its ∙ ap Some on_time) j few
         (subst (λ k. InTransfer g r k branch.items j (alone h.no_hand)) on_time h') e
@@ -367,7 +377,13 @@ module _ (moment : Moment none_rests) (m : Machine) where
   -- a core's tick
   at_clock : (c : ℕ) (o : Option CoreState) → slice_get w.machine.cores c ≡ o → tick_at w.machine c o ≡ Some m → FollowsSo g who w x (watched_after w (Tick c) m)
   at_clock c None at_c e = no_machine m e
-  at_clock c (Some a) at_c e = record { core = 0; there = omega arith; may_rest = none_rests; elsewhere = λ d u ne. refl; follows = tick_followed moment c a at_c m e }
+  at_clock c (Some a) at_c e = record {
+    core = 0;
+    there = omega arith;
+    may_rest = none_rests;
+    elsewhere = λ d u ne. refl;
+    follows = tick_followed moment c a at_c m e;
+  }
 
   -- Each event is followed by a piece of the program's run; behind it some threads may be at rest.
   pub event_answered : (event : Event) → does g.image g.stimulus w.machine event ≡ Some m → FollowsSo g who w x (watched_after w event m)

@@ -4,7 +4,6 @@ use Rattle.std.specs.Prelude.{Bool, true, false, ◌||◌, nat_eq, slice_get, sl
 use Rattle.std.proofs.lemmas.Bool.{cases_eq, eqb-true, ne_eqb}
 use Rattle.std.proofs.lemmas.List.{length-set}
 use Rattle.std.proofs.lemmas.Option.{same_Some, slice_get_within}
-use Rattle.xs_instr.specs.declared.state.CoreState.{CoreState}
 use Rattle.xs_instr.specs.declared.state.Mode.{Mode as ThreadMode}
 use Rattle.xs_instr.specs.declared.state.Mode.TheVariants.{Running, Unused, Waiting}
 use Rattle.xs_instr.specs.Machine.{Machine, Step, noted}
@@ -16,14 +15,13 @@ use Rattle.xc_meaning.specs.States.Branches.{Branch}
 use Rattle.xc_meaning.specs.States.Items.{Item}
 use Rattle.xl_expr.proofs.Lists.{get_set_same, get_set_other}
 use Rattle.xl_par.specs.Hands.{Hand, IsAmong, with_sync, with_thread_got}
-use Rattle.xr_match.specs.Lives.{Watched, life_after, watched_after}
+use Rattle.xr_match.specs.Lives.{life_after, watched_after}
 use Rattle.xr_match.specs.Meanings.{of_kernel}
 use Rattle.xr_match.specs.Sources.{Told}
-use Rattle.xr_threads.specs.Images.{IsImageOf}
 use Rattle.xr_threads.specs.Roles.{AreUsedSo, HandFits, Role, Roles, empty, gives_back, got_by, opens, unused, used_by}
-use Rattle.xr_threads.specs.Runners.{Setting, Runner}
+use Rattle.xr_threads.specs.Runners.{Runner}
 use Rattle.xr_threads.specs.ThreadViews.{HandChange, IsSilentStep, Owns, gets_sync, gets_thread, keeps, SameUse, ThreadView, StillRuns, Guarantee, giving_back, held_in, sync_in}
-use Rattle.xr_threads.specs.Standing.{EventsAre, Stand, Standing, StandsBy, ThreadIs, none_rests}
+use Rattle.xr_threads.specs.Standing.{EventsAre, StandsBy, ThreadIs, none_rests}
 use Rattle.xr_threads.specs.Living.{AreNamed}
 use Rattle.xr_threads.proofs.Moments.{BranchAt, Moment, ThreadAt}
 use Rattle.xr_threads.proofs.NamedLinks.{gets_sync_linked, gets_thread_linked, keeps_linked, told_same}
@@ -81,7 +79,8 @@ hand_sync items hand u (opens h bs rest e is count several synced) m = by h.sync
 
 module _ {moment : Moment none_rests} {hand : Option Hand} (thread_at : ThreadAt moment hand)
     (branch : Branch) (fits : HandFits branch.items hand) (z : ThreadView) (on : StillRuns moment.setting thread_at.runner z.core)
-    (touched : Guarantee moment.setting thread_at.runner (record { core = thread_at.state; world = moment.told.state; hand = hand }) z) where
+    (touched : Guarantee moment.setting thread_at.runner
+    (record { core = thread_at.state; world = moment.told.state; hand = hand }) z) where
   open moment use {setting as g, image as is, roles as who, watched as w, told as x, standing as st}
   open thread_at use {core as c, thread as t, state as a, at_core as at_c, runner as r, runs as runs_r}
 
@@ -460,7 +459,8 @@ module _ {moment : Moment none_rests} {hand : Option Hand} {thread_at : ThreadAt
   by_roles : (hand' : Option Hand) → z.hand ≡ hand' → (who' : Roles) (moved : ℕ → Bool) → SilentRoles g who who' c t r hand hand' a z.core branch moved → (AreNamed g who w x → AreNamed g who' (watched_after w (Step c t) silent_machine) nothing_told) →
       Follows g none_rests who w x (watched_after w (Step c t) silent_machine)
   by_roles hand' e who' moved roles named =
-      silent_answered branch_at z.core hand' alive calm silent.on (view_is hand' e (Guarantee g r before) silent.touched) silent.roots silent.channel_ends who' moved roles left few
+      silent_answered branch_at z.core hand' alive calm silent.on (view_is hand' e (Guarantee g r before) silent.touched) silent.roots
+      silent.channel_ends who' moved roles left few
       (view_is hand' e (StandsBy g r false branch.items branch.mode left) by) named
 
   by_change : HandChange g r before z → Follows g none_rests who w x (watched_after w (Step c t) silent_machine)
@@ -477,7 +477,8 @@ module _ {moment : Moment none_rests} {hand : Option Hand} {thread_at : ThreadAt
       (who_more thread_at branch stand.in_hand z silent.on silent.touched h n v x' e synced lacks next there syncs tied others)
       (λ u. only_thread t u || only_thread v u)
       (gets_thread_roles thread_at branch stand.in_hand z silent.on silent.touched h n v x' e synced lacks next there syncs tied others)
-      (λ names. more_named thread_at branch stand.in_hand z silent.on silent.touched h n v x' e synced lacks next there syncs tied others names silent_machine at_left nothing_told nothing_done)
+      (λ names. more_named thread_at branch stand.in_hand z silent.on silent.touched h n v x' e synced lacks next there syncs tied others
+      names silent_machine at_left nothing_told nothing_done)
 
   pub silent_followed : Follows g none_rests who w x (watched_after w (Step c t) silent_machine)
   silent_followed = by_change silent.hand

@@ -12,17 +12,16 @@ use Rattle.xs_instr.specs.declared.state.Sent.{Sent}
 use Rattle.xs_instr.specs.Machine.{Machine, Step, noted, on_links, stepped}
 use Rattle.xs_instr.specs.declared.state.Thread.{Thread}
 use Rattle.xc_meaning.specs.Counts.KernelCounts.{kernel_bound}
-use Rattle.xc_meaning.specs.States.Branches.{Branch, runs, ended, erred}
+use Rattle.xc_meaning.specs.States.Branches.{runs, ended, erred}
 use Rattle.xc_meaning.specs.States.Channels.{Side}
 use Rattle.xl_par.specs.Hands.{Hand}
 use Rattle.xr_match.specs.Lives.{Life, Watched, watched_after}
 use Rattle.xr_match.specs.Meanings.{of_kernel}
 use Rattle.xr_match.specs.Sources.{Told}
-use Rattle.xr_threads.specs.Images.{IsImageOf}
-use Rattle.xr_threads.specs.Roles.{Roles, empty, used_by}
+use Rattle.xr_threads.specs.Roles.{Roles, empty}
 use Rattle.xr_threads.specs.Runners.{Runner, Setting, home}
 use Rattle.xr_threads.specs.ThreadViews.{ThreadView, running}
-use Rattle.xr_threads.specs.Standing.{EventsAre, Stand, Standing, StandsBy, StandsWith, ThreadIs, none_rests}
+use Rattle.xr_threads.specs.Standing.{EventsAre, Stand, StandsBy, StandsWith, ThreadIs, none_rests}
 use Rattle.xr_threads.specs.Transfers.{Transfer, in_phase}
 use Rattle.xr_threads.specs.Turns.{is_watching}
 use Rattle.xr_threads.specs.Wired.{AreSidesOn, AreWired, HasAlone, IsLine, IsTransferring}
@@ -41,11 +40,12 @@ use Rattle.xr_wires.specs.Phases.{Phase, between, spot}
 abbrev pub behind_step : Machine → (core : ℕ) → CoreState → Option Record → List Sent → Machine
 behind_step m c left made sent = record { cores = slice_set m.cores c left; links = on_links m.links c sent; trace = noted m.trace made }
 
--- What a thread's next slot is, and how the program follows it: the thread pauses; or the slot is a step, and behind a piece of the program's run the two
--- sides stand so again.
+-- What a thread's next slot is, and how the program follows it: the thread pauses; or the slot is a step, and behind a piece of the
+-- program's run the two sides stand so again.
 pub data IsFollowed (g : Setting) (who : Roles) (w : Watched) (x : Told (of_kernel g.program)) (c t : ℕ) (r : Runner) (a : CoreState) (did : Did CoreState) : Type 0 where
   pauses : did ≡ Paused → IsFollowed g who w x c t r a did
-  followed : (may_rest : (core thread : ℕ) → Bool) → ((d u : ℕ) → d ≢ c → may_rest d u ≡ false) → (left : CoreState) (made : Option Record) (sent : List Sent) →
+  followed : (may_rest : (core thread : ℕ) → Bool) → ((d u : ℕ) → d ≢ c → may_rest d u ≡ false) →
+      (left : CoreState) (made : Option Record) (sent : List Sent) →
       stepped (home g r) w.machine r.core r.thread a did ≡ Some (behind_step w.machine r.core left made sent) →
       Follows g may_rest who w x (watched_after w (Step c t) (behind_step w.machine c left made sent)) →
       IsFollowed g who w x c t r a did
@@ -158,4 +158,5 @@ module _ {moment : Moment none_rests} {thread_at : ThreadAt moment None} (branch
       AreWired g (who_next thread_at left (advance g r a pc regs regs here ends) next) watched.machine x.state →
       ((transfer : Transfer) → next ≡ Some transfer → HasAlone x.state.branches transfer.channel transfer.side r.branch) → Follows g may_rest' who w x watched
   goes_on_so may_rest' fewer few by wired alone =
-      advances thread_at left (advance g r a pc regs regs here ends) next may_rest' branch known wired alone (own_stand (may_rest' c t) fewer few by)
+      advances thread_at left (advance g r a pc regs regs here ends) next may_rest' branch known wired alone
+      (own_stand (may_rest' c t) fewer few by)

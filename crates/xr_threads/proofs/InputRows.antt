@@ -1,48 +1,31 @@
 -- IN of an input: the branch takes the offer that stands first and answers it, and the thread is inside a transfer; or another parcel stood first,
 -- and the branch errs.
-use Rattle.std.proofs.Common.{◌≡◌, ℕ, ◌+◌, ◌<◌, ◌≤◌, ◌++◌, IsTrue, List, [], ◌∷◌, length, Option, Some, None, refl, sym, ap, ◌∙◌, subst, arith}
-use Rattle.std.specs.Prelude.{false, slice_get, slice_index_or, slice_set}
-use Rattle.std.proofs.lemmas.Option.{same_Some}
+use Rattle.std.proofs.Common.{◌≡◌, ℕ, ◌+◌, ◌<◌, ◌≤◌, ◌++◌, List, [], ◌∷◌, length, Option, Some, None, refl, sym, ap, ◌∙◌, subst, arith}
+use Rattle.std.specs.Prelude.{false}
 use Rattle.xs_instr.specs.declared.state.ChanEnd.{ChanEnd}
-use Rattle.xs_instr.specs.declared.state.CoreState.{CoreState}
-use Rattle.xs_instr.specs.declared.state.Thread.{Thread}
 use Rattle.xs_instr.specs.declared.instr.Reg.TheVariants.{R0}
 use Rattle.xs_instr.specs.declared.state.Regs.{Regs}
 use Rattle.xs_instr.specs.declared.trace.Record.TheVariants.{Com}
 use Rattle.xs_instr.specs.declared.trace.Trap.TheVariants.{Mismatch}
 use Rattle.xs_instr.specs.Did.{Made, Traps}
 use Rattle.xs_instr.specs.Registers.{reg_set}
-use Rattle.xs_instr.specs.Machine.{stepped}
 use Rattle.xs_instr.specs.Slot.{slot}
 use Rattle.xc_tree.specs.Depth.{if_some}
 use Rattle.xc_kernel.specs.Plain as kernel
-use Rattle.xc_kernel.specs.Things.{by_resource, channel}
-use Rattle.xc_meaning.proofs.Basics.{or_left, same_number}
 use Rattle.xc_meaning.specs.Counts.KernelCounts.{of_place}
-use Rattle.xc_meaning.specs.Runs.{acts}
-use Rattle.xc_meaning.specs.States.Branches.{Branch, runs, side_of}
-use Rattle.xc_meaning.specs.States.Channels.{Inboxes, Parcel, Side, offer, other_side, taken}
+use Rattle.xc_meaning.specs.States.Branches.{runs, side_of}
+use Rattle.xc_meaning.specs.States.Channels.{Parcel, offer, other_side, taken}
 use Rattle.xc_meaning.specs.States.Items.{Item, does, storing}
-use Rattle.xc_meaning.specs.States.Worlds.{World, go}
-use Rattle.xc_meaning.specs.Uses.{by_items}
-use Rattle.xl_chan.specs.Protocols.{takes_word}
-use Rattle.xl_image.specs.Images.{pair_of}
-use Rattle.xr_match.specs.Lives.{Watched}
-use Rattle.xr_match.specs.Meanings.{of_kernel}
-use Rattle.xr_match.specs.Sources.{Told}
-use Rattle.xr_threads.specs.Fits.{ChangesAt, ItemsFit, TakesInAt, greatest}
-use Rattle.xr_threads.specs.Images.{IsImageOf}
-use Rattle.xr_threads.specs.Roles.{Roles, used_by}
-use Rattle.xr_threads.specs.Runners.{IsChannel, Runner, Setting, footprint_of, home, shrunk}
-use Rattle.xr_threads.specs.ThreadViews.{ThreadView, running}
-use Rattle.xr_threads.specs.Standing.{Stand, Standing, StandsWith, none_rests}
+use Rattle.xc_meaning.specs.States.Worlds.{World}
+use Rattle.xr_threads.specs.Fits.{ChangesAt, ItemsFit, greatest}
+use Rattle.xr_threads.specs.Runners.{Runner, Setting, home, shrunk}
+use Rattle.xr_threads.specs.ThreadViews.{running}
+use Rattle.xr_threads.specs.Standing.{StandsWith, none_rests}
 use Rattle.xr_threads.specs.Transfers.{AwaitsNothing, StopsIn, Transfer, in_phase}
-use Rattle.xr_threads.specs.Turns.{Communicates, Errs, Has, InTransfer, IsNext, Runs, cost, is_watching, takes_in}
-use Rattle.xr_threads.specs.Wired.{AreSidesOn, HasAlone, IsLine, boxes_in}
-use Rattle.xr_threads.proofs.ChannelBoxes.{line_boxed, line_parcels}
+use Rattle.xr_threads.specs.Turns.{Communicates, Errs, InTransfer, cost, takes_in}
+use Rattle.xr_threads.specs.Wired.{boxes_in}
 use Rattle.xr_threads.proofs.ChannelWorlds.{input_errs, received, received_boxes, takes_offer}
 use Rattle.xr_threads.proofs.EndRows.{AtEnd, Goal, acts_row, answered_there, boxes_answered, near_end, stays_in, word_row}
-use Rattle.xr_threads.proofs.EndSteps as step
 use Rattle.xr_threads.proofs.EndSteps.{gone_on}
 use Rattle.xr_threads.proofs.Evaluations.{err_acts}
 use Rattle.xr_threads.proofs.Moments.{BranchAt, Moment, ThreadAt}
@@ -51,18 +34,14 @@ use Rattle.xr_threads.proofs.OwnTransfers.{ActsAtEnd, alone_still, behind, does_
 use Rattle.xr_threads.proofs.PieceStarts as start
 use Rattle.xr_threads.proofs.Protocols.{word_come}
 use Rattle.xr_threads.proofs.Shrinks.{transfer_shrinks}
-use Rattle.xr_threads.proofs.TransferBegins as begin
 use Rattle.xr_threads.proofs.TransferErrs.{errs_followed}
 use Rattle.xr_threads.proofs.Transferred.{inside_as}
 use Rattle.xr_threads.proofs.Watching.{nothing_unwatched}
-use Rattle.xr_threads.proofs.WiredMoves.{one_line, wired_moves}
-use Rattle.xr_wires.specs.Balance.{Local}
 use Rattle.xr_wires.specs.Phases.{between, checks_end, spot}
 use Rattle.xr_wires.proofs.Frames.{boxed, length_box, parcels}
 use Rattle.xr_wires.proofs.Near as near
 use Rattle.xr_wires.proofs.Near.{NearEnd, Next, NearInput, inputs_makes, inputs_pauses, inputs_traps}
 use Rattle.xr_wires.proofs.Seen.{is_offer}
-use Rattle.xr_wires.proofs.Updates.{moved_to}
 
 -- a word that has come in is to be stored, where there is a place for it
 storing_awaits_nothing : (target : Option kernel.Place) (v : ℕ) (rest : List Item) → AwaitsNothing rest → AwaitsNothing (storing target v rest)
@@ -76,7 +55,8 @@ storing_fits g r (Some place) v rest changes counted fits = ((changes, counted),
 module _ {moment : Moment none_rests} {thread_at : ThreadAt moment None} (branch_at : BranchAt thread_at)
     (on : branch_at.branch.mode ≡ runs) (none : thread_at.runner.transfer ≡ None) (j : ℕ) (few : j ≤ branch_at.stand.left)
     (i : kernel.Input)
-    (h : Communicates moment.setting thread_at.runner (takes_in i) j (record { core = thread_at.state; world = moment.told.state; hand = None })) where
+    (h : Communicates moment.setting thread_at.runner (takes_in i) j
+    (record { core = thread_at.state; world = moment.told.state; hand = None })) where
   open moment use {setting as g, first, image as is, roles as who, watched as w, told as x, standing as st}
   open thread_at use {core as c, thread as t, state as a, at_core as at_c, runner as r, runs as runs_r}
   open branch_at use {branch, known, stand}
@@ -102,11 +82,14 @@ module _ {moment : Moment none_rests} {thread_at : ThreadAt moment None} (branch
     abbrev world : World
     world = received g.program g.stimulus r.branch x.state branch h.on.channel h.on.side h.rest stands outside i.target v
 
-    world_boxes : world.inboxes ≡ boxed (boxed x.state.inboxes h.on.channel h.on.side ps) h.on.channel (other_side h.on.side) (parcels x.state.inboxes h.on.channel (other_side h.on.side) ++ taken ∷ [])
-    world_boxes = received_boxes g.program g.stimulus r.branch x.state branch h.on.channel h.on.side h.rest stands outside i.target v ps few_boxes found
+    world_boxes : world.inboxes ≡ boxed (boxed x.state.inboxes h.on.channel h.on.side ps) h.on.channel (other_side h.on.side)
+        (parcels x.state.inboxes h.on.channel (other_side h.on.side) ++ taken ∷ [])
+    world_boxes = received_boxes g.program g.stimulus r.branch x.state branch h.on.channel h.on.side h.rest stands outside i.target v ps
+        few_boxes found
 
     as_many : length world.inboxes ≡ length x.state.inboxes
-    as_many = ap length world_boxes ∙ length_box (boxed x.state.inboxes h.on.channel h.on.side ps) h.on.channel _ ∙ length_box x.state.inboxes h.on.channel _
+    as_many = ap length world_boxes ∙ length_box (boxed x.state.inboxes h.on.channel h.on.side ps) h.on.channel _ ∙ length_box
+        x.state.inboxes h.on.channel _
 
     abbrev transfer : Transfer
     transfer = in_phase h.on.channel h.on.side checks_end
@@ -128,7 +111,8 @@ module _ {moment : Moment none_rests} {thread_at : ThreadAt moment None} (branch
       items = items;
       made = Some (Com r.core v);
       world = world;
-      acted = takes_offer g.program g.stimulus r.branch x.state branch h.on.channel h.on.side h.rest stands outside i v ps h.on.is_channel found (start.to_do branch_at on none (takes_in i) j h);
+      acted = takes_offer g.program g.stimulus r.branch x.state branch h.on.channel h.on.side h.rest stands outside i v ps h.on.is_channel
+          found (start.to_do branch_at on none (takes_in i) j h);
       is_next = record { clocks = refl; branches = refl; store = λ k e. refl; trace = ap (λ n. x.state.trace ++ Com n v ∷ []) stand.core };
       store = refl;
       has = start.has branch_at on none (takes_in i) j h;
@@ -162,13 +146,16 @@ module _ {moment : Moment none_rests} {thread_at : ThreadAt moment None} (branch
       )
 
     made_so : (es : List ChanEnd) → slot (home g r) a r.thread ≡ Made (left does_input es) (Some (Com r.core v)) [] →
-        Next (near_end branch_at at_end) r.thread (running r.tie h.pc h.regs) (left does_input es) (answered_there branch_at at_end ps) (spot checks_end false) → Goal branch_at at_end
+        Next (near_end branch_at at_end) r.thread (running r.tie h.pc h.regs) (left does_input es) (answered_there branch_at at_end ps)
+        (spot checks_end false) → Goal branch_at at_end
     made_so =
         acts_row branch_at at_end does_input checks_end (stays_in refl) none_rests (λ d u ne. refl) j (2 + j + cost g r) few (omega arith)
-        (answered_there branch_at at_end ps) (ap (boxes_in g.program) world_boxes ∙ boxes_answered branch_at at_end ps) as_many stands_inside
+        (answered_there branch_at at_end ps) (ap (boxes_in g.program) world_boxes ∙ boxes_answered branch_at at_end ps) as_many
+        stands_inside
 
   -- another parcel stood first
-  errs : (p : Parcel) (ps : List Parcel) → parcels x.state.inboxes h.on.channel h.on.side ≡ p ∷ ps → is_offer p ≡ false → slot (home g r) a r.thread ≡ Traps Mismatch →
+  errs : (p : Parcel) (ps : List Parcel) → parcels x.state.inboxes h.on.channel h.on.side ≡ p ∷ ps → is_offer p ≡ false →
+      slot (home g r) a r.thread ≡ Traps Mismatch →
       Errs g r (record { core = a; world = x.state; hand = None })
   errs p ps found wrong traps = record {
     kind = Mismatch;
@@ -178,8 +165,10 @@ module _ {moment : Moment none_rests} {thread_at : ThreadAt moment None} (branch
     holds = h.has.holds;
     ports = h.has.ports;
     no_hand = refl;
-    acts = err_acts g r x.state branch (does (kernel.input i)) h.rest Mismatch i.pos (start.to_do branch_at on none (takes_in i) j h) stand.core
-        (input_errs g.program g.stimulus r.branch x.state branch h.on.channel h.on.side h.rest stands outside i p ps h.on.is_channel found wrong);
+    acts = err_acts g r x.state branch (does (kernel.input i)) h.rest Mismatch i.pos
+        (start.to_do branch_at on none (takes_in i) j h) stand.core
+        (input_errs g.program g.stimulus r.branch x.state branch h.on.channel h.on.side h.rest stands outside i p ps h.on.is_channel
+        found wrong);
     store = refl;
   }
 

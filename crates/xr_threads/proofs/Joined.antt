@@ -24,17 +24,14 @@ use Rattle.xl_expr.proofs.Lists.{get_set_other, get_set_same}
 use Rattle.xl_expr.proofs.ResourceParts.{others_same}
 use Rattle.xl_par.specs.Hands.{Hand, IsAmong}
 use Rattle.xr_match.specs.Lives.{Life, Watched}
-use Rattle.xr_match.specs.Meanings.{of_kernel}
-use Rattle.xr_match.specs.Sources.{Told}
 use Rattle.xr_match.specs.Systems.{SomeIs}
-use Rattle.xr_threads.specs.Images.{IsImageOf}
 use Rattle.xr_threads.specs.Items.{EndAt, ItemsAt}
 use Rattle.xr_threads.specs.Parents.{Parent, branches_of, syncs_of}
 use Rattle.xr_threads.specs.Roles.{AreRoles, AreUsedSo, HasReserves, ParentsWait, Role, Roles, gives_back, got_by, outermost, own_branches, unused, used_by}
 use Rattle.xr_threads.specs.Runners.{Footprint, Setting, Runner, code, footprint_of, home, plan}
 use Rattle.xr_threads.specs.Sizes.{Sizes}
 use Rattle.xr_threads.specs.ThreadViews.{Owns, giving_back, held_in, running, sync_in}
-use Rattle.xr_threads.specs.Standing.{AreLoose, EventsAre, HasEnded, IsMade, IsRun, Stand, Standing, Stands, StandsBy, counts, is_of_root, living_on, none_rests, one_where}
+use Rattle.xr_threads.specs.Standing.{AreLoose, EventsAre, HasEnded, IsMade, IsRun, Stand, Stands, StandsBy, counts, is_of_root, living_on, none_rests, one_where}
 use Rattle.xr_threads.specs.Transfers.{Transfer}
 use Rattle.xr_threads.specs.Turns.{GivesBack, Has, IsFree, IsWaitingTied, JoinsAt, cost, is_watching}
 use Rattle.xr_threads.proofs.Apartness.{room_of_role}
@@ -582,7 +579,8 @@ module _ {moment : Moment none_rests} (thread_at : ThreadAt moment None)
     have_ended = λ k b le lt there. ended_is b.mode (kid_over k b le lt there)
 
     room : maker.stack + temporary ≤ length a.words
-    room = let k = room_of_role g first who is st.roles c t r None runs_r in let size = ap (λ (s : Sizes). s.words) (st.sizes c a at_c) in omega (arith, k, size)
+    room = let k = room_of_role g first who is st.roles c t r None runs_r in let size = ap (λ (s : Sizes). s.words) (st.sizes c a at_c) in
+        omega (arith, k, size)
 
     has' : Has g maker p.items (record { core = left; world = world; hand = giving_back n })
     has' =

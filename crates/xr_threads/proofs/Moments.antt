@@ -1,4 +1,4 @@
--- What the lemmas on an event are told of: a moment at which the two sides stand so, a thread of the machine that runs a branch then, and that branch.
+-- What lemmas on an event are told of: a moment at which the two sides stand so, a thread that runs a branch then, and that branch.
 use Rattle.std.proofs.Common.{◌≡◌, ℕ, Option, Some}
 use Rattle.std.specs.Prelude.{Bool, slice_get}
 use Rattle.xs_instr.specs.declared.state.CoreState.{CoreState}
@@ -32,7 +32,8 @@ pub record ThreadAt {rests : (core thread : ℕ) → Bool} (moment : Moment rest
   pub runs : moment.roles core thread ≡ used_by runner hand
 
 -- the branch that it runs, and how the thread stands to it
-pub record BranchAt {rests : (core thread : ℕ) → Bool} {moment : Moment rests} {hand : Option Hand} (thread_at : ThreadAt moment hand) : Type 0 where
+pub record BranchAt {rests : (core thread : ℕ) → Bool} {moment : Moment rests} {hand : Option Hand}
+    (thread_at : ThreadAt moment hand) : Type 0 where
   pub branch : Branch
   pub known : slice_get moment.told.state.branches thread_at.runner.branch ≡ Some branch
   pub stand : Stand moment.setting thread_at.runner (rests thread_at.core thread_at.thread) hand thread_at.state moment.told.state
@@ -45,12 +46,14 @@ abbrev pub moment_of : {rests : (core thread : ℕ) → Bool} (g : Setting) (fir
 moment_of g first is who w x st = record { setting = g; first = first; image = is; roles = who; watched = w; told = x; standing = st }
 
 abbrev pub thread_of : {rests : (core thread : ℕ) → Bool} (moment : Moment rests) (c t : ℕ) (a : CoreState) →
-    slice_get moment.watched.machine.cores c ≡ Some a → (r : Runner) (hand : Option Hand) → moment.roles c t ≡ used_by r hand → ThreadAt moment hand
+    slice_get moment.watched.machine.cores c ≡ Some a → (r : Runner) (hand : Option Hand) → moment.roles c t ≡ used_by r hand →
+    ThreadAt moment hand
 thread_of moment c t a at_c r hand runs_r = record { core = c; thread = t; state = a; at_core = at_c; runner = r; runs = runs_r }
 
-abbrev pub branch_of : {rests : (core thread : ℕ) → Bool} {moment : Moment rests} {hand : Option Hand} (thread_at : ThreadAt moment hand) (branch : Branch) →
+abbrev pub branch_of : {rests : (core thread : ℕ) → Bool} {moment : Moment rests} {hand : Option Hand} (thread_at : ThreadAt moment hand)
+    (branch : Branch) →
     slice_get moment.told.state.branches thread_at.runner.branch ≡ Some branch →
     Stand moment.setting thread_at.runner (rests thread_at.core thread_at.thread) hand thread_at.state moment.told.state
-        (moment.watched.lives thread_at.core thread_at.thread) moment.told.actions branch →
+    (moment.watched.lives thread_at.core thread_at.thread) moment.told.actions branch →
     BranchAt thread_at
 branch_of thread_at branch known stand = record { branch = branch; known = known; stand = stand }

@@ -25,7 +25,6 @@ use Rattle.xr_threads.specs.Roles.{IsOnce, Role, Roles, got_by, unused, used_by}
 use Rattle.xr_threads.specs.Runners.{Setting, Runner}
 use Rattle.xr_threads.specs.ThreadViews.{SameUse, ThreadView, giving_back}
 use Rattle.xr_threads.specs.Standing.{Standing}
-use Rattle.xr_threads.specs.Turns.{OwnAction}
 use Rattle.xr_threads.proofs.Named.{HandStays}
 use Rattle.xr_threads.proofs.NamedBegins.{AreBegun}
 use Rattle.xr_threads.proofs.NamedBound.{stand_of}
@@ -38,7 +37,6 @@ use Rattle.xr_threads.proofs.Indices.{index_among, index_further, index_here, in
 use Rattle.xr_threads.proofs.OpensRoles.{at_kid, at_own, elsewhere, kid, kid_there, opens, own as opens_own, own_there, place}
 use Rattle.xr_threads.proofs.JoinsRoles as joins_of
 use Rattle.xr_threads.proofs.JoinsRoles.{joins}
-use Rattle.xr_threads.proofs.Counts.{counts_own}
 use Rattle.xr_threads.proofs.ParWorlds.{new_branches, opened, waiting}
 use Rattle.xr_threads.proofs.Seating as seating
 use Rattle.xr_threads.proofs.Seats.{role_cases, role_here, with_role}
@@ -109,16 +107,20 @@ module _ (g : Setting) (may_rest : (core thread : ℕ) → Bool) (who : Roles) (
         goes_named g may_rest who (with_role who c t role) w m' x x' st named c t a b at_a at_b r None runs_r goes syncs threads s None (role_here who c t role) family (inl refl) (with_role_others who c t role)
 
     -- The end of a root.
-    pub leaves_linked : who c t ≡ used_by r None → (piece : List Action) → (y : World) (new old : Branch) → 1 ≤ steps_of g.program g.stimulus old.family (Some x.state) piece →
-        slice_get x.state.branches r.branch ≡ Some old → new.birth ≡ old.birth → y.branches ≡ slice_set x.state.branches r.branch new → b.syncs ≡ a.syncs →
-        ((u : ℕ) → u ≢ t → slice_get b.threads u ≡ slice_get a.threads u) → AreNamed g (with_role who c t unused) w' (told_by g.program g.stimulus x piece y)
+    pub leaves_linked : who c t ≡ used_by r None → (piece : List Action) → (y : World) (new old : Branch) →
+        1 ≤ steps_of g.program g.stimulus old.family (Some x.state) piece →
+        slice_get x.state.branches r.branch ≡ Some old → new.birth ≡ old.birth → y.branches ≡ slice_set x.state.branches r.branch new →
+        b.syncs ≡ a.syncs →
+        ((u : ℕ) → u ≢ t → slice_get b.threads u ≡ slice_get a.threads u) →
+        AreNamed g (with_role who c t unused) w' (told_by g.program g.stimulus x piece y)
     leaves_linked runs_r piece y new old paid known birth set syncs threads =
         let stand = stand_of g may_rest who w x st c a at_a t r None runs_r in
         let family : old.family ≡ r.family = ap (λ (b : Branch). b.family) (same_Some old stand.0 (sym known ∙ stand.1)) ∙ stand.2.family in
         let one' = subst (λ f. 1 ≤ steps_of g.program g.stimulus f (Some x.state) piece) family paid in
         let x' = told_by g.program g.stimulus x piece y in
         freed_named g may_rest who (with_role who c t unused) w m' x x' st named c t a b at_a at_b r None runs_r
-        (told_one g x piece y r.branch old new known birth set) syncs threads (role_here who c t unused) (omega (arith, one')) (with_role_others who c t unused)
+        (told_one g x piece y r.branch old new known birth set) syncs threads (role_here who c t unused) (omega (arith, one'))
+        (with_role_others who c t unused)
 
     -- A synchroniser is given back.
     pub resumes_linked : (s : Runner) (n : ℕ) → who c t ≡ used_by r (giving_back n) → s.family ≡ r.family → (x' : Told (of_kernel g.program)) → Goes g x x' → slice_get a.syncs n ≡ Some true → b.syncs ≡ slice_set a.syncs n false → ((u : ℕ) → u ≢ t → slice_get b.threads u ≡ slice_get a.threads u) →

@@ -1,41 +1,19 @@
 -- OUT of an output: the branch offers its word, and the thread is inside a transfer.
-use Rattle.std.proofs.Common.{◌≡◌, ℕ, ◌+◌, ◌<◌, ◌≤◌, ◌++◌, IsTrue, List, [], ◌∷◌, length, Some, None, refl, sym, ap, ◌∙◌, subst, arith}
-use Rattle.std.specs.Prelude.{false, slice_get, slice_index_or, slice_set}
-use Rattle.std.proofs.lemmas.Option.{same_Some}
+use Rattle.std.proofs.Common.{◌≡◌, ℕ, ◌+◌, ◌≤◌, List, [], ◌∷◌, Some, None, refl, arith}
+use Rattle.std.specs.Prelude.{false}
 use Rattle.xs_instr.specs.declared.state.ChanEnd.{ChanEnd}
-use Rattle.xs_instr.specs.declared.state.CoreState.{CoreState}
-use Rattle.xs_instr.specs.declared.state.Thread.{Thread}
-use Rattle.xs_instr.specs.Did.{Made}
 use Rattle.xs_instr.specs.Ends.{word_tokens}
-use Rattle.xs_instr.specs.Machine.{stepped}
-use Rattle.xs_instr.specs.Slot.{slot}
 use Rattle.xc_kernel.specs.Plain as kernel
-use Rattle.xc_kernel.specs.Things.{by_resource, channel}
-use Rattle.xc_meaning.proofs.Basics.{or_left, same_number}
-use Rattle.xc_meaning.specs.Runs.{acts}
-use Rattle.xc_meaning.specs.States.Branches.{Branch, runs, side_of}
-use Rattle.xc_meaning.specs.States.Channels.{Inboxes, Side, offer, other_side}
-use Rattle.xc_meaning.specs.States.Items.{Item, awaits, does}
-use Rattle.xc_meaning.specs.States.Worlds.{World, go}
-use Rattle.xc_meaning.specs.Uses.{by_items}
-use Rattle.xl_chan.specs.Protocols.{sends}
-use Rattle.xl_image.specs.Images.{pair_of}
-use Rattle.xr_match.specs.Lives.{Watched}
-use Rattle.xr_match.specs.Meanings.{of_kernel}
-use Rattle.xr_match.specs.Sources.{Told}
-use Rattle.xr_threads.specs.Fits.{PutsOutAt}
-use Rattle.xr_threads.specs.Images.{IsImageOf}
-use Rattle.xr_threads.specs.Roles.{Roles, used_by}
-use Rattle.xr_threads.specs.Runners.{IsChannel, Runner, Setting, footprint_of, home, shrunk}
-use Rattle.xr_threads.specs.ThreadViews.{ThreadView, running}
-use Rattle.xr_threads.specs.Standing.{Stand, Standing, StandsWith, none_rests}
+use Rattle.xc_meaning.specs.States.Branches.{runs, side_of}
+use Rattle.xc_meaning.specs.States.Channels.{offer}
+use Rattle.xc_meaning.specs.States.Items.{Item, awaits}
+use Rattle.xr_threads.specs.Runners.{shrunk}
+use Rattle.xr_threads.specs.ThreadViews.{running}
+use Rattle.xr_threads.specs.Standing.{StandsWith, none_rests}
 use Rattle.xr_threads.specs.Transfers.{Transfer, in_phase}
-use Rattle.xr_threads.specs.Turns.{Communicates, Has, InTransfer, IsBehind, IsNext, Runs, cost, puts_out}
-use Rattle.xr_threads.specs.Wired.{AreSidesOn, HasAlone, IsLine, boxes_in}
-use Rattle.xr_threads.proofs.ChannelBoxes.{line_boxed, line_parcels}
+use Rattle.xr_threads.specs.Turns.{Communicates, InTransfer, IsBehind, cost, puts_out}
 use Rattle.xr_threads.proofs.ChannelWorlds.{offered, offers_word}
 use Rattle.xr_threads.proofs.EndRows.{AtEnd, Goal, acts_row, boxes_put, near_end, put_there, sends_row, stays_in}
-use Rattle.xr_threads.proofs.EndSteps as step
 use Rattle.xr_threads.proofs.EndSteps.{gone_on}
 use Rattle.xr_threads.proofs.Moments.{BranchAt, Moment, ThreadAt}
 use Rattle.xr_threads.proofs.OwnTransfers as own
@@ -43,20 +21,17 @@ use Rattle.xr_threads.proofs.OwnTransfers.{ActsAtEnd, alone_still, behind, does_
 use Rattle.xr_threads.proofs.PieceStarts as start
 use Rattle.xr_threads.proofs.Protocols.{offer_sent}
 use Rattle.xr_threads.proofs.Shrinks.{transfer_shrinks}
-use Rattle.xr_threads.proofs.TransferBegins as begin
 use Rattle.xr_threads.proofs.Transferred.{inside_as}
-use Rattle.xr_threads.proofs.WiredMoves.{one_line, wired_moves}
-use Rattle.xr_wires.specs.Balance.{Local}
-use Rattle.xr_wires.specs.Phases.{between, sends_end, spot}
-use Rattle.xr_wires.proofs.Frames.{boxed, length_box, parcels}
+use Rattle.xr_wires.specs.Phases.{between, sends_end}
+use Rattle.xr_wires.proofs.Frames.{length_box}
 use Rattle.xr_wires.proofs.Near as near
 use Rattle.xr_wires.proofs.Near.{NearEnd, Next, NearSend, sends_makes, sends_pauses}
-use Rattle.xr_wires.proofs.Updates.{moved_to}
 
 module _ {moment : Moment none_rests} {thread_at : ThreadAt moment None} (branch_at : BranchAt thread_at)
     (on : branch_at.branch.mode ≡ runs) (none : thread_at.runner.transfer ≡ None) (j : ℕ) (few : j ≤ branch_at.stand.left)
     (o : kernel.Output) (v : ℕ)
-    (h : Communicates moment.setting thread_at.runner (puts_out o v) j (record { core = thread_at.state; world = moment.told.state; hand = None })) where
+    (h : Communicates moment.setting thread_at.runner (puts_out o v) j
+    (record { core = thread_at.state; world = moment.told.state; hand = None })) where
   open moment use {setting as g, image as is, roles as who, watched as w, told as x, standing as st}
   open thread_at use {core as c, thread as t, state as a, at_core as at_c, runner as r, runs as runs_r}
   open branch_at use {branch, known, stand}
@@ -87,7 +62,8 @@ module _ {moment : Moment none_rests} {thread_at : ThreadAt moment None} (branch
     items = items;
     made = None;
     world = offered g.program g.stimulus r.branch x.state branch h.on.channel h.on.side h.rest stands outside o.pos v;
-    acted = offers_word g.program g.stimulus r.branch x.state branch h.on.channel h.on.side h.rest stands outside o v h.on.is_channel h.ready (start.to_do branch_at on none (puts_out o v) j h);
+    acted = offers_word g.program g.stimulus r.branch x.state branch h.on.channel h.on.side h.rest stands outside o v h.on.is_channel
+        h.ready (start.to_do branch_at on none (puts_out o v) j h);
     is_next = record { clocks = refl; branches = refl; store = λ k e. refl; trace = refl };
     store = refl;
     has = start.has branch_at on none (puts_out o v) j h;
@@ -125,4 +101,5 @@ module _ {moment : Moment none_rests} {thread_at : ThreadAt moment None} (branch
       sends_row branch_at at_end h.pc h.regs h.here o.pos (word_tokens v) (put_there branch_at at_end (offer v)) (sends_end v) h.steps.0
       (near.out_plain (near_end branch_at at_end) r.thread (running r.tie h.pc h.regs) v at_end.stands)
       (acts_row branch_at at_end does_offer (sends_end v) (stays_in refl) none_rests (λ d u ne. refl) j (2 + j + cost g r) few (omega arith)
-      (put_there branch_at at_end (offer v)) (boxes_put branch_at at_end (offer v)) (length_box x.state.inboxes h.on.channel _) stands_inside)
+      (put_there branch_at at_end (offer v)) (boxes_put branch_at at_end (offer v)) (length_box x.state.inboxes h.on.channel _)
+      stands_inside)

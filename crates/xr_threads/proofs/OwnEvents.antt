@@ -11,7 +11,7 @@ use Rattle.xs_instr.specs.Machine.{noted}
 use Rattle.xc_disjoint.specs.Needs.{threads_on}
 use Rattle.xc_laws.specs.Tree.{IsWaiting}
 use Rattle.xc_meaning.specs.Counts.Families.{steps_of}
-use Rattle.xc_meaning.specs.Runs.{acts, acts_all}
+use Rattle.xc_meaning.specs.Runs.{acts_all}
 use Rattle.xc_meaning.specs.States.Branches.{Branch, runs, waits, ended, has_ended}
 use Rattle.xc_meaning.specs.States.Items.{Item}
 use Rattle.xc_meaning.specs.States.Worlds.{World, Action}
@@ -19,17 +19,14 @@ use Rattle.xc_meaning.specs.Uses.{by_item, by_items}
 use Rattle.xl_expr.proofs.Lists.{get_set_same, get_set_other}
 use Rattle.xl_par.specs.Hands.{Hand, IsAmong}
 use Rattle.xr_match.specs.Lives.{Watched}
-use Rattle.xr_match.specs.Meanings.{of_kernel}
-use Rattle.xr_match.specs.Sources.{Told}
 use Rattle.xr_match.specs.Systems.{SomeIs}
-use Rattle.xr_threads.specs.Images.{IsImageOf}
 use Rattle.xr_threads.specs.Parents.{Parent, branches_of}
 use Rattle.xr_threads.specs.Roles.{IsParent, ParentsWait, Role, Roles, got_by, own_branches, used_by}
 use Rattle.xr_threads.specs.Runners.{Footprint, Runner, Setting, footprint_of}
 use Rattle.xr_threads.specs.ThreadViews.{Guarantee, giving_back}
-use Rattle.xr_threads.specs.Standing.{AreLoose, IsMade, IsRun, Stand, Standing, Stands, counts, living_on, none_rests}
+use Rattle.xr_threads.specs.Standing.{AreLoose, IsMade, IsRun, Stand, Stands, counts, living_on, none_rests}
 use Rattle.xr_threads.specs.Transfers.{Transfer}
-use Rattle.xr_threads.specs.Turns.{HoldsStore, IsNext, OwnAction, PortsStand, first_changes}
+use Rattle.xr_threads.specs.Turns.{HoldsStore, IsNext, PortsStand, first_changes}
 use Rattle.xr_threads.specs.Wired.{AreWired, HasAlone}
 use Rattle.xr_threads.proofs.Alone.{alone_behind}
 use Rattle.xr_threads.proofs.Counts.{far_counts, living_after}

@@ -1,8 +1,7 @@
 -- A root's branch ends by a step of its own, and its thread leaves its place: it is free.
-use Rattle.std.proofs.Common.{◌≡◌, ℕ, ◌≤◌, ◌≢◌, ◌⊎◌, inl, inr, [], ◌∷◌, List, length, Option, Some, None, refl, sym, ap, ◌∙◌, subst, ⊎_elim, eq-eqb}
+use Rattle.std.proofs.Common.{◌≡◌, ℕ, ◌≤◌, ◌≢◌, ◌⊎◌, inl, inr, [], List, Option, Some, None, refl, sym, ap, ◌∙◌, subst, ⊎_elim, eq-eqb}
 use Rattle.std.specs.Prelude.{true, false, slice_get}
 use Rattle.std.proofs.lemmas.Bool.{eqb-true}
-use Rattle.xs_instr.specs.declared.state.CoreState.{CoreState}
 use Rattle.xs_instr.specs.Machine.{noted}
 use Rattle.xc_disjoint.specs.Needs.{threads_on}
 use Rattle.xc_meaning.specs.Runs.{acts_all}
@@ -10,14 +9,11 @@ use Rattle.xc_meaning.specs.States.Branches.{Branch, has_ended}
 use Rattle.xc_meaning.specs.States.Worlds.{Action}
 use Rattle.xl_par.specs.Hands.{Hand, IsAmong}
 use Rattle.xr_match.specs.Lives.{Watched}
-use Rattle.xr_match.specs.Meanings.{of_kernel}
-use Rattle.xr_match.specs.Sources.{Told}
-use Rattle.xr_threads.specs.Images.{IsImageOf}
 use Rattle.xr_threads.specs.Parents.{branches_of}
 use Rattle.xr_threads.specs.Roles.{Roles, own_branches, unused, used_by}
-use Rattle.xr_threads.specs.Runners.{Runner, Setting}
+use Rattle.xr_threads.specs.Runners.{Runner}
 use Rattle.xr_threads.specs.ThreadViews.{giving_back}
-use Rattle.xr_threads.specs.Standing.{AreLoose, IsRun, Standing, Stands, none_rests}
+use Rattle.xr_threads.specs.Standing.{AreLoose, IsRun, Stands, none_rests}
 use Rattle.xr_threads.specs.Transfers.{Transfer}
 use Rattle.xr_threads.specs.Turns.{IsFree}
 use Rattle.xr_threads.proofs.Holding.{loose_behind}

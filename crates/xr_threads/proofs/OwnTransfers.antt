@@ -10,21 +10,18 @@ use Rattle.xs_instr.specs.declared.trace.Record.{Record}
 use Rattle.xc_meaning.specs.Counts.Families.{steps_of}
 use Rattle.xc_meaning.specs.Counts.KernelCounts.{greatest_count, kernel_bound}
 use Rattle.xc_meaning.specs.Runs.{acts, acts_all}
-use Rattle.xc_meaning.specs.States.Branches.{Branch, runs, ended, erred}
+use Rattle.xc_meaning.specs.States.Branches.{runs, ended, erred}
 use Rattle.xc_meaning.specs.States.Channels.{Side}
 use Rattle.xc_meaning.specs.States.Items.{Item}
 use Rattle.xc_meaning.specs.States.Worlds.{World, go}
 use Rattle.xl_expr.proofs.Lists.{get_set_same}
 use Rattle.xr_match.specs.Lives.{Life, Watched}
-use Rattle.xr_match.specs.Meanings.{of_kernel}
-use Rattle.xr_match.specs.Sources.{Told}
-use Rattle.xr_threads.specs.Images.{IsImageOf}
-use Rattle.xr_threads.specs.Roles.{Roles, empty, used_by}
-use Rattle.xr_threads.specs.Runners.{Runner, Setting, footprint_of}
+use Rattle.xr_threads.specs.Roles.{empty, used_by}
+use Rattle.xr_threads.specs.Runners.{Runner, footprint_of}
 use Rattle.xr_threads.specs.ThreadViews.{ThreadView, running}
-use Rattle.xr_threads.specs.Standing.{Stand, Standing, StandsBy, StandsWith, ThreadIs, none_rests}
+use Rattle.xr_threads.specs.Standing.{Stand, StandsBy, StandsWith, ThreadIs, none_rests}
 use Rattle.xr_threads.specs.Transfers.{Transfer}
-use Rattle.xr_threads.specs.Turns.{Has, IsNext, cost, is_watching, own_go}
+use Rattle.xr_threads.specs.Turns.{Has, IsNext, cost, is_watching}
 use Rattle.xr_threads.specs.Wired.{AreWired, HasAlone}
 use Rattle.xr_threads.proofs.Alone.{alone_behind}
 use Rattle.xr_threads.proofs.Answers as answers
@@ -48,8 +45,8 @@ pays_for most greatest steps left j further actions more is bound few enough som
     let grown = mul-le-mul_left most le in
     omega (arith, grown)
 
--- What a branch does with a step of its thread on an end: the step leads from these registers to those; the action leaves these items, this record and
--- this state; and the thread is in this transfer then, or in none.
+-- What a branch does with a step of its thread on an end: the step leads from these registers to those; the action leaves these items,
+-- this record and this state; and the thread is in this transfer then, or in none.
 pub record ActsAtEnd {moment : Moment none_rests} {thread_at : ThreadAt moment None} (branch_at : BranchAt thread_at) : Type 0 where
   pub on : branch_at.branch.mode ≡ runs
   pub pc : ℕ
@@ -60,9 +57,11 @@ pub record ActsAtEnd {moment : Moment none_rests} {thread_at : ThreadAt moment N
   pub made : Option Record
   pub world : World
   pub acted : acts moment.setting.program moment.setting.stimulus moment.told.state (go thread_at.runner.branch) ≡ Some world
-  pub is_next : IsNext moment.setting thread_at.runner moment.told.state world branch_at.branch (record branch_at.branch { items = items }) made
+  pub is_next : IsNext moment.setting thread_at.runner moment.told.state world branch_at.branch
+      (record branch_at.branch { items = items }) made
   pub store : world.store ≡ moment.told.state.store
-  pub has : Has moment.setting thread_at.runner branch_at.branch.items (record { core = thread_at.state; world = moment.told.state; hand = None })
+  pub has : Has moment.setting thread_at.runner branch_at.branch.items
+      (record { core = thread_at.state; world = moment.told.state; hand = None })
   pub unwatched : is_watching items ≡ false
   pub transfer : Option Transfer
 
@@ -72,7 +71,8 @@ module _ {moment : Moment none_rests} {thread_at : ThreadAt moment None} {branch
   abbrev pub s : Runner
   s = record r { footprint = footprint_of does.items; transfer = does.transfer }
 
-module _ {moment : Moment none_rests} {thread_at : ThreadAt moment None} {branch_at : BranchAt thread_at} (does : ActsAtEnd branch_at) (ends : List ChanEnd) where
+module _ {moment : Moment none_rests} {thread_at : ThreadAt moment None} {branch_at : BranchAt thread_at} (does : ActsAtEnd branch_at)
+    (ends : List ChanEnd) where
   open moment use {setting as g, image as is, roles as who, watched as w, told as x, standing as st}
   open thread_at use {core as c, thread as t, state as a, runner as r}
   open branch_at use {branch, known, stand}
@@ -152,7 +152,9 @@ module _ {moment : Moment none_rests} {thread_at : ThreadAt moment None} {branch
       let all = pays_for (kernel_bound g.program) (greatest_count g.program) (w.lives c t).steps stand.left j further (x.actions r.family) (steps_of g.program g.stimulus r.family (Some x.state) (go r.branch ∷ [])) refl stand.bound few enough one' in
       subst (λ k. k + further ≤ kernel_bound g.program * (more r.family + 1)) (sym life) all
 
-  own_stand : (rests : Bool) (j further : ℕ) → j ≤ stand.left → further ≤ j + 2 + cost g r → StandsWith g (s does) rests transfer items further behind → Stand g (s does) rests None left world (watched.lives c t) more (record branch { items = items })
+  own_stand : (rests : Bool) (j further : ℕ) → j ≤ stand.left → further ≤ j + 2 + cost g r →
+      StandsWith g (s does) rests transfer items further behind →
+      Stand g (s does) rests None left world (watched.lives c t) more (record branch { items = items })
   own_stand rests j further few enough by = record {
     core = stand.core;
     family = stand.family;
@@ -177,7 +179,8 @@ module _ {moment : Moment none_rests} {thread_at : ThreadAt moment None} {branch
       runs_erred f = cc
 
   -- so the two sides stand so again
-  pub does_so : (rests : (core thread : ℕ) → Bool) (j further : ℕ) → j ≤ stand.left → further ≤ j + 2 + cost g r → StandsWith g (s does) (rests c t) transfer items further behind →
+  pub does_so : (rests : (core thread : ℕ) → Bool) (j further : ℕ) → j ≤ stand.left → further ≤ j + 2 + cost g r →
+      StandsWith g (s does) (rests c t) transfer items further behind →
       AreWired g (with_role who c t (used_by (s does) None)) watched.machine world →
       ((which : Transfer) → transfer ≡ Some which → HasAlone world.branches which.channel which.side r.branch) → Follows g rests who w x watched
   does_so rests j further few enough by wired alone =

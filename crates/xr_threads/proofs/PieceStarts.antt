@@ -23,7 +23,8 @@ piece_channel g r (puts_out o v) rest c is fits = subst (PutsOutAt g r) is fits.
 piece_channel g r (takes_in i) rest c is fits = subst (TakesInAt g r) is fits.0.0.from
 
 -- and what is to be done uses it
-pub piece_uses : (piece : Piece) (rest : List Item) (c : ℕ) → resource_of piece ≡ Chan c → IsTrue (by_items (channel c) (does (statement_of piece) ∷ rest))
+pub piece_uses : (piece : Piece) (rest : List Item) (c : ℕ) → resource_of piece ≡ Chan c →
+    IsTrue (by_items (channel c) (does (statement_of piece) ∷ rest))
 piece_uses (puts_out o v) rest c is =
     or_left _ (by_items (channel c) rest) (or_left (by_resource (channel c) o.resource) _ (ap (by_resource (channel c)) is ∙ same_number c))
 piece_uses (takes_in i) rest c is =
@@ -31,7 +32,8 @@ piece_uses (takes_in i) rest c is =
 
 module _ {moment : Moment none_rests} {thread_at : ThreadAt moment None} (branch_at : BranchAt thread_at)
     (on : branch_at.branch.mode ≡ runs) (none : thread_at.runner.transfer ≡ None) (piece : Piece) (j : ℕ)
-    (h : Communicates moment.setting thread_at.runner piece j (record { core = thread_at.state; world = moment.told.state; hand = None })) where
+    (h : Communicates moment.setting thread_at.runner piece j
+    (record { core = thread_at.state; world = moment.told.state; hand = None })) where
   open moment use {setting as g, told as x, standing as st}
   open thread_at use {state as a, runner as r}
   open branch_at use {branch, known, stand}
@@ -59,4 +61,5 @@ module _ {moment : Moment none_rests} {thread_at : ThreadAt moment None} (branch
   abbrev pub at_end : AtEnd thread_at h.on.channel h.on.side between
   at_end =
       begins_there thread_at none branch known on h.on.channel h.on.side is_channel
-      (subst (λ items. IsTrue (by_items (channel h.on.channel) items)) (sym begins_with) (piece_uses piece h.rest h.on.channel h.on.is_channel)) stands
+      (subst (λ items. IsTrue (by_items (channel h.on.channel) items)) (sym begins_with)
+      (piece_uses piece h.rest h.on.channel h.on.is_channel)) stands

@@ -18,16 +18,12 @@ use Rattle.xc_meaning.specs.States.Items.{Item}
 use Rattle.xc_meaning.specs.States.Worlds.{World, Action, clock, go, take, default, only_if}
 use Rattle.xl_par.specs.Hands.{Hand, IsAmong}
 use Rattle.xr_match.specs.Implements.{IsQuietMachine}
-use Rattle.xr_match.specs.Lives.{Watched}
-use Rattle.xr_match.specs.Meanings.{of_kernel}
-use Rattle.xr_match.specs.Sources.{Told}
 use Rattle.xr_match.specs.Systems.{SomeIs}
-use Rattle.xr_threads.specs.Images.{IsImageOf}
 use Rattle.xr_threads.specs.Parents.{Parent, branches_of}
-use Rattle.xr_threads.specs.Roles.{ParentWaits, ParentsWait, Roles, used_by}
-use Rattle.xr_threads.specs.Runners.{Setting, Runner, home}
+use Rattle.xr_threads.specs.Roles.{ParentWaits, ParentsWait, used_by}
+use Rattle.xr_threads.specs.Runners.{Setting, home}
 use Rattle.xr_threads.specs.ThreadViews.{LeadsIn, Rely, ThreadView, giving_back}
-use Rattle.xr_threads.specs.Standing.{HasEnded, IsRun, Stand, Standing, StandsBy, StandsWith, none_rests}
+use Rattle.xr_threads.specs.Standing.{HasEnded, IsRun, Stand, StandsBy, StandsWith, none_rests}
 use Rattle.xr_threads.specs.Transfers.{Transfer}
 use Rattle.xr_threads.specs.Turns.{CannotAct, GivesBack, Joins, Turn, Turns, begins, errs, frees, goes_on, pauses, waits_tied, communicates, puts_out, takes_in}
 use Rattle.xr_threads.proofs.Deciding.{done_each, joins_together}

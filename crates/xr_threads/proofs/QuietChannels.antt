@@ -6,13 +6,11 @@ use Rattle.xw_words.specs.declared.pos.Pos.{Pos}
 use Rattle.xs_instr.specs.declared.image.Pair.{Pair}
 use Rattle.xs_instr.specs.declared.instr.Reg.TheVariants.{R0}
 use Rattle.xs_instr.specs.declared.state.ChanEnd.{ChanEnd}
-use Rattle.xs_instr.specs.declared.state.CoreState.{CoreState}
 use Rattle.xs_instr.specs.Ends.{NotYet, control_token, take_word, word_tokens}
 use Rattle.xs_instr.specs.Machine.{and_then}
 use Rattle.xc_kernel.specs.declared.statement.KRes.TheVariants.{Chan}
 use Rattle.xc_kernel.specs.Plain as kernel
-use Rattle.xc_kernel.specs.Things.{by_resource, channel as the_channel}
-use Rattle.xc_meaning.proofs.Basics.{or_left, same_number}
+use Rattle.xc_kernel.specs.Things.{channel as the_channel}
 use Rattle.xc_meaning.specs.Runs.{does_first, does_item, selects, selects_by, step_of}
 use Rattle.xc_meaning.specs.Settings.Channels.{is_among}
 use Rattle.xc_meaning.specs.Settings.Select.{takes, takes_default}
@@ -28,15 +26,9 @@ use Rattle.xl_chan.specs.Protocols.{Act, Acts, sends, takes_word}
 use Rattle.xl_image.specs.Images.{pair_of}
 use Rattle.xl_par.specs.Hands.{Hand}
 use Rattle.xr_match.specs.Implements.{IsQuietMachine}
-use Rattle.xr_match.specs.Lives.{Watched}
-use Rattle.xr_match.specs.Meanings.{of_kernel}
-use Rattle.xr_match.specs.Sources.{Told}
-use Rattle.xr_threads.specs.Fits.{PutsOutAt, TakesInAt}
-use Rattle.xr_threads.specs.Images.{IsImageOf}
-use Rattle.xr_threads.specs.Roles.{Roles, used_by}
 use Rattle.xr_threads.specs.Runners.{IsChannel, Runner, Setting, end_place, home}
 use Rattle.xr_threads.specs.ThreadViews.{ThreadView, running}
-use Rattle.xr_threads.specs.Standing.{Standing, none_rests}
+use Rattle.xr_threads.specs.Standing.{none_rests}
 use Rattle.xr_threads.specs.Transfers.{GoesWith, IsAwaiting, Transfer, acts_left, items_behind}
 use Rattle.xr_threads.specs.Turns.{CannotAct, Communicates, InTransfer, IsBehind, Runs, TakesSteps, puts_out, takes_in}
 use Rattle.xr_threads.specs.Wired.{AreSidesOn, IsLine, boxes_in}

@@ -19,14 +19,10 @@ use Rattle.xl_chan.specs.Protocols.{Act, Acts, sends, takes_word}
 use Rattle.xl_image.specs.Images.{pair_of}
 use Rattle.xl_par.specs.Hands.{Hand}
 use Rattle.xr_match.specs.Implements.{IsQuietMachine}
-use Rattle.xr_match.specs.Lives.{Watched}
-use Rattle.xr_match.specs.Meanings.{of_kernel}
-use Rattle.xr_match.specs.Sources.{Told}
-use Rattle.xr_threads.specs.Images.{IsImageOf}
-use Rattle.xr_threads.specs.Roles.{Roles, used_by}
-use Rattle.xr_threads.specs.Runners.{Runner, Setting, end_place, home}
+use Rattle.xr_threads.specs.Roles.{used_by}
+use Rattle.xr_threads.specs.Runners.{Runner, end_place, home}
 use Rattle.xr_threads.specs.ThreadViews.{ThreadView, running}
-use Rattle.xr_threads.specs.Standing.{Stand, Standing, StandsBy, StandsWith, none_rests}
+use Rattle.xr_threads.specs.Standing.{Stand, StandsBy, StandsWith, none_rests}
 use Rattle.xr_threads.specs.Transfers.{GoesWith, IsAwaiting, StopsIn, Transfer, acts_left, items_behind}
 use Rattle.xr_threads.specs.Turns.{IsBehind, TakesSteps}
 use Rattle.xr_threads.specs.Wired.{AreSidesOn, IsLine, IsTransferring, Stance, at_rest, boxes_in, in_piece}
@@ -96,7 +92,8 @@ module _ (moment : Moment none_rests)
 
   -- A thread is at a step on the end of a side of a channel: that waits.
   module _ {hand : Option Hand} (thread_at : ThreadAt moment hand)
-      (channel : ℕ) (side : Side) (line : ℕ) (is_line : IsLine g.program line channel) (on_core : AreSidesOn g.program channel thread_at.core)
+      (channel : ℕ) (side : Side) (line : ℕ) (is_line : IsLine g.program line channel)
+      (on_core : AreSidesOn g.program channel thread_at.core)
       (pos : Pos) (pc : ℕ) (regs : Regs)
       (here : slice_get thread_at.state.threads thread_at.runner.thread ≡ Some (running thread_at.runner.tie pc regs)) where
     open thread_at use {core as c, thread as t, state as a, at_core as at_c, runner as r, runs as runs_r}
@@ -121,24 +118,29 @@ module _ (moment : Moment none_rests)
     -- one that sends lacks credits
     pub sends_wait : (ks : List Token) → Acts (home g r) r.thread (end_place g r channel side) thread pos (sends ks) pc regs → nat_le (length ks) own_end.credits ≡ false
     sends_wait ks h =
-        lacks_credits thread_at quiet (goes_with put_ends a r.thread thread) ks place_end own_end ((acts_so (sends ks) h).by a own_end here there)
+        lacks_credits thread_at quiet (goes_with put_ends a r.thread thread) ks place_end own_end
+        ((acts_so (sends ks) h).by a own_end here there)
 
     -- one that awaits a control token has none
     pub checks_wait : (n : ℕ) → Acts (home g r) r.thread (end_place g r channel side) thread pos (protocol.takes n) pc regs → own_end.tokens ≡ []
     checks_wait n h =
-        lacks_tokens thread_at quiet (goes_with put_ends a r.thread thread) n place_end own_end ((acts_so (protocol.takes n) h).by a own_end here there)
+        lacks_tokens thread_at quiet (goes_with put_ends a r.thread thread) n place_end own_end
+        ((acts_so (protocol.takes n) h).by a own_end here there)
 
     -- one that awaits a word has fewer tokens than one
     pub word_waits : (to : Reg) → Acts (home g r) r.thread (end_place g r channel side) thread pos (takes_word to) pc regs → (take_word own_end.tokens ≡ NotYet) × (length own_end.tokens < 4)
     word_waits to h =
-        lacks_word thread_at quiet (gets_with put_ends a r.thread thread to) place_end own_end ((acts_so (takes_word to) h).by a own_end here there)
+        lacks_word thread_at quiet (gets_with put_ends a r.thread thread to) place_end own_end
+        ((acts_so (takes_word to) h).by a own_end here there)
 
     -- so no row of a piece that it is in is enabled
     none_enabled : (f : Phase) (items : List Item) (Q : ℕ → Regs → Type 0) → GoesWith f channel pos items → TakesSteps g r channel side pos (acts_left f) Q pc regs → ghosts.spots line side ≡ spot f false →
         Goes w.machine.cores boxes ghosts line (pair_of g.program channel) side → ⊥
-    none_enabled f items Q with_items steps spot_is go = by f with_items steps (goes (near_end thread_at channel side line is_line on_core) f (ap (λ (s : Spot). s.phase) spot_is) go)
+    none_enabled f items Q with_items steps spot_is go = by f with_items steps
+        (goes (near_end thread_at channel side line is_line on_core) f (ap (λ (s : Spot). s.phase) spot_is) go)
       where
-        by : (f : Phase) → GoesWith f channel pos items → TakesSteps g r channel side pos (acts_left f) Q pc regs → MayGo (near_end thread_at channel side line is_line on_core) f → ⊥
+        by : (f : Phase) → GoesWith f channel pos items → TakesSteps g r channel side pos (acts_left f) Q pc regs →
+            MayGo (near_end thread_at channel side line is_line on_core) f → ⊥
         by between h steps may = h
         by (sends_end v) h steps may = let both : true ≡ false = sym may ∙ sends_wait (control_token 1 ∷ []) steps.0 in cc
         by (awaits_ack q) h steps may = let none = ap length (checks_wait 3 steps.0) in omega (arith, may, none)
@@ -174,7 +176,8 @@ module _ (moment : Moment none_rests)
       phase = transfer.phase;
       plain = plain_where_goes transfer.phase transfer.channel h.pos items h.goes_with;
       spot_is = spot_now;
-      stuck = inr (none_enabled (thread_of moment d u a at_d r hand runs_r) transfer.channel transfer.side line is_line on_core h.pos h.pc h.regs h.here transfer.phase items (IsBehind g r (items_behind transfer.phase items) j) h.goes_with h.steps spot_now);
+      stuck = inr (none_enabled (thread_of moment d u a at_d r hand runs_r) transfer.channel transfer.side line is_line on_core h.pos h.pc
+          h.regs h.here transfer.phase items (IsBehind g r (items_behind transfer.phase items) j) h.goes_with h.steps spot_now);
     }
 
     -- one that has trapped awaited an answer
@@ -191,7 +194,8 @@ module _ (moment : Moment none_rests)
     -- nothing goes on there
     stuck_side : IsStuck line transfer.channel transfer.side
     stuck_side =
-        let s = some_is (Stand g r false hand a x.state (w.lives d u) x.actions) (slice_get x.state.branches r.branch) (stands_at moment d u a r hand at_d runs_r) in
+        let s = some_is (Stand g r false hand a x.state (w.lives d u) x.actions) (slice_get x.state.branches r.branch)
+        (stands_at moment d u a r hand at_d runs_r) in
         stuck_by s.0 s.2 s.0.mode refl
 
   -- nothing goes on where somebody is inside a transfer
@@ -208,4 +212,10 @@ module _ (moment : Moment none_rests)
     where
       by : Stance g who channel side (ghosts.spots line side) (ghosts.late line (other_side side)) → IsStuck line channel side
       by (in_piece d u i on_core e late) = stuck_of line channel side is_line d u i
-      by (at_rest nobody e late) = record { phase = between; plain = tt; spot_is = e; stuck = inr (λ go. none_between _ _ _ (ap (λ (s : Spot). s.phase) e) go) }
+      by (at_rest nobody e late) = record {
+        phase = between;
+        plain = tt;
+        spot_is = e;
+        stuck = inr
+            (λ go. none_between _ _ _ (ap (λ (s : Spot). s.phase) e) go);
+      }

@@ -1,6 +1,6 @@
 -- Where the machine is quiet, no thread's slot is a step. On a channel's end it then lacks credits, or tokens.
 use Rattle.std.proofs.Common.{◌≡◌, ℕ, ◌<◌, List, [], ◌∷◌, length, Option, Some, None, refl, sym, ap, ◌∙◌, arith}
-use Rattle.std.specs.Prelude.{Bool, true, false, ◌&&◌, nat_eq, nat_le, slice_get}
+use Rattle.std.specs.Prelude.{Bool, true, false, ◌&&◌, nat_eq, nat_le}
 use Rattle.xs_instr.specs.declared.image.Home.{Home}
 use Rattle.xs_instr.specs.declared.state.ChanEnd.{ChanEnd}
 use Rattle.xs_instr.specs.declared.state.CoreState.{CoreState}
@@ -13,11 +13,7 @@ use Rattle.xs_instr.specs.Machine.{Machine, home_of, step_at, stepped}
 use Rattle.xs_instr.specs.Slot.{slot}
 use Rattle.xl_par.specs.Hands.{Hand}
 use Rattle.xr_match.specs.Implements.{IsQuietMachine}
-use Rattle.xr_match.specs.Lives.{Watched}
-use Rattle.xr_match.specs.Meanings.{of_kernel}
-use Rattle.xr_match.specs.Sources.{Told}
-use Rattle.xr_threads.specs.Roles.{Roles, used_by}
-use Rattle.xr_threads.specs.Runners.{Runner, Setting, home}
+use Rattle.xr_threads.specs.Runners.{home}
 use Rattle.xr_threads.proofs.Moments.{Moment, ThreadAt}
 
 -- a turn that leaves no machine is no step

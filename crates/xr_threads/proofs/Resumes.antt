@@ -18,15 +18,12 @@ use Rattle.xl_expr.proofs.Lists.{get_set_other, get_set_same}
 use Rattle.xl_expr.proofs.ResourceParts.{others_same}
 use Rattle.xl_par.specs.Hands.{Hand, IsAmong}
 use Rattle.xr_match.specs.Lives.{Life, Watched}
-use Rattle.xr_match.specs.Meanings.{of_kernel}
-use Rattle.xr_match.specs.Sources.{Told}
 use Rattle.xr_match.specs.Systems.{SomeIs}
-use Rattle.xr_threads.specs.Images.{IsImageOf}
 use Rattle.xr_threads.specs.Parents.{Parent, syncs_of}
 use Rattle.xr_threads.specs.Roles.{AreRoles, AreUsedSo, IsParent, Role, Roles, empty, got_by, unused, used_by}
-use Rattle.xr_threads.specs.Runners.{Setting, Runner, home}
+use Rattle.xr_threads.specs.Runners.{Runner, home}
 use Rattle.xr_threads.specs.ThreadViews.{Owns, giving_back, held_in, running, sync_in}
-use Rattle.xr_threads.specs.Standing.{AreLoose, IsRun, Stand, Standing, Stands, StandsBy, StandsWith, ThreadIs, none_rests}
+use Rattle.xr_threads.specs.Standing.{AreLoose, IsRun, Stand, Stands, StandsBy, StandsWith, ThreadIs, none_rests}
 use Rattle.xr_threads.specs.Turns.{GivesBack, IsFree, IsWaitingTied, Rest, cost, is_watching}
 use Rattle.xr_threads.proofs.Moments.{Moment, ThreadAt}
 use Rattle.xr_threads.proofs.OwnEvents.{rests_alone, rests_there}

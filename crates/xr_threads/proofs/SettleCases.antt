@@ -4,7 +4,6 @@ use Rattle.std.proofs.Common.{◌≡◌, ℕ, ◌+◌, ◌-◌, ◌*◌, ◌<◌
 use Rattle.std.proofs.lemmas.Option.{same_Some, slice_get_within}
 use Rattle.std.specs.Prelude.{Bool, true, slice_get, slice_set}
 use Rattle.xw_words.specs.declared.pos.Pos.{Pos}
-use Rattle.xs_instr.specs.declared.state.CoreState.{CoreState}
 use Rattle.xs_instr.specs.declared.state.Mode.TheVariants.{Running}
 use Rattle.xc_disjoint.specs.Needs.{threads_on}
 use Rattle.xc_kernel.specs.Plain as kernel
@@ -21,7 +20,6 @@ use Rattle.xr_match.specs.Lives.{Watched}
 use Rattle.xr_match.specs.Meanings.{of_kernel}
 use Rattle.xr_match.specs.Sources.{Told}
 use Rattle.xr_threads.specs.Fits.{FitOn}
-use Rattle.xr_threads.specs.Images.{IsImageOf}
 use Rattle.xr_threads.specs.Parents.{Parent, sync_before, syncs_of}
 use Rattle.xr_threads.specs.Roles.{HandFits, IsOnce, ParentsWait, Roles, empty, unused, used_by}
 use Rattle.xr_threads.specs.Runners.{Runner, Setting, anyone, footprint_of, outside, shrunk}
@@ -66,7 +64,8 @@ pub record SettlesOne (g : Setting) (may_rest : (core thread : ℕ) → Bool) (o
   pub known : slice_get world.branches runner.branch ≡ Some next
   pub lighter : thread_weight runner.parents next.items < weight
 
-module _ {may_rest : (core thread : ℕ) → Bool} {moment : Moment may_rest} {thread_at : ThreadAt moment None} (branch_at : BranchAt thread_at) (running_is : branch_at.branch.mode ≡ runs)
+module _ {may_rest : (core thread : ℕ) → Bool} {moment : Moment may_rest} {thread_at : ThreadAt moment None}
+    (branch_at : BranchAt thread_at) (running_is : branch_at.branch.mode ≡ runs)
     (none : thread_at.runner.transfer ≡ None) (j : ℕ) (few : j + cost moment.setting thread_at.runner ≤ branch_at.stand.left)
     (items : List Item) (items_are : branch_at.branch.items ≡ items)
     (h : Rest moment.setting thread_at.runner items j (record { core = thread_at.state; world = moment.told.state; hand = None })) where
@@ -182,7 +181,9 @@ module _ {may_rest : (core thread : ℕ) → Bool} {moment : Moment may_rest} {t
           standing = settled thread_at (shrunk r others) None piece y d h.has.holds h.has.ports none may_rest (λ i u ne m. m) next there
               (resting g (shrunk r others) (may_rest c t) a y (w.lives c t) (told_by g.program g.stimulus x piece y).actions next j stand.left may
               (ap (λ (b : Branch). b.core) (sym same) ∙ stand.core) (ap (λ (b : Branch). b.family) (sym same) ∙ stand.family) refl
-              (parents_beside g r x.state q.branch q.known q.running next r.parents r.branch stand.parents) (ap (λ (b : Branch). b.sides) (sym same) ∙ stand.sides) (ap (λ (b : Branch). b.inside) (sym same) ∙ stand.inside) none q.running q.rest few (bound_behind piece y stand.left (omega arith)));
+              (parents_beside g r x.state q.branch q.known q.running next r.parents r.branch stand.parents)
+              (ap (λ (b : Branch). b.sides) (sym same) ∙ stand.sides) (ap (λ (b : Branch). b.inside) (sym same) ∙ stand.inside) none
+              q.running q.rest few (bound_behind piece y stand.left (omega arith)));
           named = λ names. settles_linked g may_rest who w x st names c t r (shrunk r others) None None runs_r refl (inl refl) (told_by g.program g.stimulus x piece y) (told_one g x piece y r.branch q.branch next q.known refl refl);
           none_inside = none_with who c t (shrunk r others) None none;
           runner = shrunk r others;
@@ -194,7 +195,8 @@ module _ {may_rest : (core thread : ℕ) → Bool} {moment : Moment may_rest} {t
 
     -- 3. Another branch is made, for which its own one waits.
     under_settles : (ss : kernel.Statements) (pos : Pos) (rest : List Item) → items ≡ does (kernel.par (kernel.more_branches (kernel.branch ss pos) kernel.no_branch)) ∷ rest → FitOn g r.core rest → GoesUnder g r ss rest j z →
-        thread_weight (waiting_one r.branch (length x.state.branches) rest r.sides r.inside ∷ r.parents) (todo ss (ends ∷ [])) < weight → SettlesOne g may_rest who w x c t weight
+        thread_weight (waiting_one r.branch (length x.state.branches) rest r.sides r.inside ∷ r.parents) (todo ss (ends ∷ [])) < weight →
+        SettlesOne g may_rest who w x c t weight
     under_settles ss pos rest these rest_fit q lighter =
         let s = under r (length x.state.branches) ss rest in
         let next : Branch = child_of q.branch ss in
@@ -215,7 +217,8 @@ module _ {may_rest : (core thread : ℕ) → Bool} {moment : Moment may_rest} {t
           acted = d.acted;
           standing = settled thread_at s None piece y d h.has.holds h.has.ports none may_rest (λ i u ne m. m) next there
               (resting g s (may_rest c t) a y (w.lives c t) (told_by g.program g.stimulus x piece y).actions next j stand.left may core family refl
-              (parents_under g r x.state q.branch q.known q.running ss rest core family sides inside rest_fit stand.parents) (ap (sides_under ss) sides) inside none refl q.rest_there few (bound_behind piece y stand.left (omega arith)));
+              (parents_under g r x.state q.branch q.known q.running ss rest core family sides inside rest_fit stand.parents)
+              (ap (sides_under ss) sides) inside none refl q.rest_there few (bound_behind piece y stand.left (omega arith)));
           named = λ names. settles_linked g may_rest who w x st names c t r s None None runs_r refl (inl refl) (told_by g.program g.stimulus x piece y) (told_under g x piece y r.branch q.branch.family q.branch (maker_of q.branch (length x.state.branches) rest) next q.known refl refl made_below refl);
           none_inside = none_with who c t s None none;
           runner = s;
@@ -340,7 +343,8 @@ module _ {may_rest : (core thread : ℕ) → Bool} {moment : Moment may_rest} {t
           piece = go r.branch ∷ [];
           world = over_world;
           acted = over_settled.acted;
-          standing = settled thread_at over None (go r.branch ∷ []) over_world over_settled h.has.holds h.has.ports none may_rest (λ i u ne m. m) (finished own_branch) over_there joining_stand;
+          standing = settled thread_at over None (go r.branch ∷ []) over_world over_settled h.has.holds h.has.ports none may_rest
+              (λ i u ne m. m) (finished own_branch) over_there joining_stand;
           named = λ names. settles_linked g may_rest who w x st names c t r over None None runs_r refl (inl refl) (told_by g.program g.stimulus x (go r.branch ∷ []) over_world) (told_one g x (go r.branch ∷ []) over_world r.branch own_branch (finished own_branch) own_known refl refl);
           none_inside = none_with who c t over None none;
           runner = over;
@@ -390,7 +394,8 @@ module _ {may_rest : (core thread : ℕ) → Bool} {moment : Moment may_rest} {t
             used_not_unused e = cc
 
         over_works_all : (i u : ℕ) (q : Runner) (other : Option Hand) → who_over i u ≡ used_by q other → Works g over_world q other
-        over_works_all i u q other at = works_settled thread_at over None (go r.branch ∷ []) over_world over_settled over_works i u q other at
+        over_works_all i u q other at = works_settled thread_at over None (go r.branch ∷ []) over_world over_settled over_works
+            i u q other at
 
         over_loose : AreLoose g who_over c a over_world
         over_loose = loose_settled thread_at over None (go r.branch ∷ []) over_world over_settled h.has.holds h.has.ports some_threads
@@ -454,9 +459,11 @@ module _ {may_rest : (core thread : ℕ) → Bool} {moment : Moment may_rest} {t
           piece = up_piece;
           world = risen_y;
           acted = up_settled.acted;
-          standing = settled thread_at above None up_piece risen_y up_settled h.has.holds h.has.ports none may_rest (λ i u ne m. m) up_next up_there
+          standing = settled thread_at above None up_piece risen_y up_settled h.has.holds h.has.ports none may_rest (λ i u ne m. m)
+              up_next up_there
               (resting g above (may_rest c t) a risen_y (w.lives c t) (told_by g.program g.stimulus x up_piece risen_y).actions up_next j stand.left may waiting.0.on_core waiting.0.of_family (ap footprint_of (sym waiting.0.items))
-              (parents_risen g r x.state own_branch own_known own_running (length g.program.roots) st.lawful.forest p ps waiting.0.branch waiting) waiting.0.sides waiting.0.inside none refl up_rest few (bound_behind up_piece risen_y stand.left (omega arith)));
+              (parents_risen g r x.state own_branch own_known own_running (length g.program.roots) st.lawful.forest p ps waiting.0.branch
+              waiting) waiting.0.sides waiting.0.inside none refl up_rest few (bound_behind up_piece risen_y stand.left (omega arith)));
           named = λ names. settles_linked g may_rest who w x st names c t r above None None runs_r refl (inl refl) (told_by g.program g.stimulus x up_piece risen_y) (told_two g x up_piece risen_y r.branch p.branch own_branch (finished own_branch) waiting.0.branch up_next own_known refl waiting.0.known refl goes_up.apart refl);
           none_inside = none_with who c t above None none;
           runner = above;
@@ -495,5 +502,8 @@ module _ {may_rest : (core thread : ℕ) → Bool} {moment : Moment may_rest} {t
         let fit = subst (FitOn g r.core) e all_fit in
         let own_fit = branch_fits g r.core (kernel.more_branches (kernel.branch ss pos) kernel.no_branch) rest fit 0 ss refl in
         let q = one_settles g r ss pos rest j z (subst (λ k. Rest g r k j z) e h) (footprint ∙ ap footprint_of e) (fits_here g s these outermost_block own_fit refl) in
-        under_settles ss pos rest e fit.1 q (subst (λ k. thread_weight (waiting_one r.branch (length x.state.branches) rest r.sides r.inside ∷ r.parents) these < thread_weight r.parents k) (sym e) (one_lighter r.parents (waiting_one r.branch (length x.state.branches) rest r.sides r.inside) ss pos))
+        under_settles ss pos rest e fit.1 q
+        (subst (λ k. thread_weight (waiting_one r.branch (length x.state.branches) rest r.sides r.inside ∷ r.parents) these <
+        thread_weight r.parents k) (sym e)
+        (one_lighter r.parents (waiting_one r.branch (length x.state.branches) rest r.sides r.inside) ss pos))
     settles_one l e (branch_end p ps rest parents) = by_sync rest e p ps parents p.sync refl

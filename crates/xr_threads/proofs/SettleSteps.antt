@@ -4,7 +4,6 @@ use Rattle.std.proofs.Common.{◌≡◌, ℕ, ◌<◌, ◌≤◌, ◌≢◌, ◌
 use Rattle.std.proofs.lemmas.Bool.{eqb-true, ne_eqb}
 use Rattle.std.proofs.lemmas.Option.{same_Some, slice_get_within}
 use Rattle.std.specs.Prelude.{Bool, true, false, nat_eq, slice_get}
-use Rattle.xs_instr.specs.declared.state.CoreState.{CoreState}
 use Rattle.xs_instr.specs.declared.state.Thread.{Thread}
 use Rattle.xc_disjoint.specs.Needs.{threads_on}
 use Rattle.xc_kernel.specs.Eval.{words_of}
@@ -15,11 +14,7 @@ use Rattle.xc_meaning.specs.States.Worlds.{Action, World}
 use Rattle.xc_meaning.specs.Uses.{by_items}
 use Rattle.xl_expr.specs.Frames.{Holds}
 use Rattle.xl_par.specs.Hands.{Hand, IsAmong}
-use Rattle.xr_match.specs.Lives.{Watched}
-use Rattle.xr_match.specs.Meanings.{of_kernel}
-use Rattle.xr_match.specs.Sources.{Told}
 use Rattle.xr_match.specs.Systems.{SomeIs}
-use Rattle.xr_threads.specs.Images.{IsImageOf}
 use Rattle.xr_threads.specs.Parents.{Parent, branches_of}
 use Rattle.xr_threads.specs.Roles.{AreRoles, AreUsedSo, HasReserves, IsParent, Roles, got_by, own_branches, used_by}
 use Rattle.xr_threads.specs.Runners.{Runner, Setting, places}

@@ -84,7 +84,9 @@ going r b ps sides inside items = record r { branch = b; parents = ps; sides = s
 
 module _ (g : Setting) (r : Runner) where
   -- what it needs it has, where it uses no more than before
-  less_holds : (b : ℕ) (ps : List Parent) (sides : Sides) (inside : List ℕ) (items : List Item) (z y : ThreadView) → ((v : ℕ) → (footprint_of items).uses v ≡ true → r.footprint.uses v ≡ true) → y.core ≡ z.core → y.world.store ≡ z.world.store → HoldsStore g r z → HoldsStore g (going r b ps sides inside items) y
+  less_holds : (b : ℕ) (ps : List Parent) (sides : Sides) (inside : List ℕ) (items : List Item) (z y : ThreadView) →
+      ((v : ℕ) → (footprint_of items).uses v ≡ true → r.footprint.uses v ≡ true) → y.core ≡ z.core → y.world.store ≡ z.world.store →
+      HoldsStore g r z → HoldsStore g (going r b ps sides inside items) y
   less_holds b ps sides inside items z y less same_core same_store h =
       let was : Holds (places g r.core) r.footprint.uses 0 y.core.words y.world.store =
       subst (λ c. Holds (places g r.core) r.footprint.uses 0 c.words y.world.store) (sym same_core)
@@ -98,26 +100,32 @@ module _ (g : Setting) (r : Runner) where
         room = let room = h.room in omega (arith, room, size);
       }
 
-  less_ports : (b : ℕ) (ps : List Parent) (sides : Sides) (inside : List ℕ) (items : List Item) (z y : ThreadView) → ((p : ℕ) → (footprint_of items).ports p ≡ true → r.footprint.ports p ≡ true) → y.core ≡ z.core → PortsStand g r z → PortsStand g (going r b ps sides inside items) y
+  less_ports : (b : ℕ) (ps : List Parent) (sides : Sides) (inside : List ℕ) (items : List Item) (z y : ThreadView) →
+      ((p : ℕ) → (footprint_of items).ports p ≡ true → r.footprint.ports p ≡ true) → y.core ≡ z.core → PortsStand g r z →
+      PortsStand g (going r b ps sides inside items) y
   less_ports b ps sides inside items z y less same_core h = λ p listed is.
       let mine : IsPort g r p listed = record { mine = less p is.mine; known = is.known; core = is.core } in
       let old = h p listed mine in
       record { port = old.port; there = ap (λ c. slice_get c.ports (port_place g r p)) same_core ∙ old.there; declared = old.declared }
 
   -- The thread stands where it stood, and what its new branch has to do begins there.
-  going_rest : (b : ℕ) (ps : List Parent) (sides : Sides) (inside : List ℕ) (items : List Item) (j : ℕ) (z y : ThreadView) (branch : Branch) (pc : ℕ) (regs : Regs) (exits : List Exit) →
+  going_rest : (b : ℕ) (ps : List Parent) (sides : Sides) (inside : List ℕ) (items : List Item) (j : ℕ) (z y : ThreadView)
+      (branch : Branch) (pc : ℕ) (regs : Regs) (exits : List Exit) →
       IsAt g r z pc regs → y.core ≡ z.core → HasBases g r regs → syncs_of ps ≡ syncs_of r.parents →
-      ItemsAt (plan g r) (code g r) sides (EndAt (plan g r) (code g r) r.tie ps) items exits pc j → ItemsFit g (going r b ps sides inside items) items →
-      Runs y.world b branch items → branch.core ≡ r.core → HoldsStore g (going r b ps sides inside items) y → PortsStand g (going r b ps sides inside items) y → Rest g (going r b ps sides inside items) items j y
-  going_rest b ps sides inside items j z y branch pc regs exits here same_core bases same_syncs at_code fits works core holds ports = record {
-    pc = pc;
-    regs = regs;
-    here = here_at items (code_unwatched (plan g r) (code g r) sides (EndAt (plan g r) (code g r) r.tie ps) items exits pc j at_code) (ap (λ c. slice_get c.threads r.thread) same_core ∙ here);
-    bases = record { base = bases.base; stack = bases.stack; names = subst (λ syncs. HoldsNames r.core syncs regs) (sym same_syncs) bases.names };
-    stands = items_stand g (going r b ps sides inside items) items exits pc j regs y.core at_code;
-    fits = fits;
-    has = record { branch = branch; runs = works; core = core; holds = holds; ports = ports };
-  }
+      ItemsAt (plan g r) (code g r) sides (EndAt (plan g r) (code g r) r.tie ps) items exits pc j →
+      ItemsFit g (going r b ps sides inside items) items →
+      Runs y.world b branch items → branch.core ≡ r.core → HoldsStore g (going r b ps sides inside items) y →
+      PortsStand g (going r b ps sides inside items) y → Rest g (going r b ps sides inside items) items j y
+  going_rest b ps sides inside items j z y branch pc regs exits here same_core bases same_syncs at_code fits works core holds
+      ports = record {
+        pc = pc;
+        regs = regs;
+        here = here_at items (code_unwatched (plan g r) (code g r) sides (EndAt (plan g r) (code g r) r.tie ps) items exits pc j at_code) (ap (λ c. slice_get c.threads r.thread) same_core ∙ here);
+        bases = record { base = bases.base; stack = bases.stack; names = subst (λ syncs. HoldsNames r.core syncs regs) (sym same_syncs) bases.names };
+        stands = items_stand g (going r b ps sides inside items) items exits pc j regs y.core at_code;
+        fits = fits;
+        has = record { branch = branch; runs = works; core = core; holds = holds; ports = ports };
+      }
 
   -- 1. The branch goes on with other items: at the beginning of a block, at its end, and at a `par` of no branch.
   pub record StaysOn (items : List Item) (j : ℕ) (z : ThreadView) : Type 0 where
@@ -138,10 +146,13 @@ module _ (g : Setting) (r : Runner) where
         known = has.runs.known;
         running = has.runs.running;
         acted = acted;
-        rest = going_rest r.branch r.parents r.sides r.inside items j z y (record has.branch { items = items }) h.pc h.regs exits (here_from (item ∷ rest) (rest_unwatched g r (item ∷ rest) j z h) h.here) refl h.bases refl at_code fits
+        rest = going_rest r.branch r.parents r.sides r.inside items j z y (record has.branch { items = items }) h.pc h.regs exits
+            (here_from (item ∷ rest) (rest_unwatched g r (item ∷ rest) j z h) h.here) refl h.bases refl at_code fits
             (runs_with z.world r.branch has.branch (item ∷ rest) items has.runs) has.core
-            (less_holds r.branch r.parents r.sides r.inside items z y (λ v u. ap (λ (f : Footprint). f.uses v) footprint ∙ less (variable v) u) refl refl has.holds)
-            (less_ports r.branch r.parents r.sides r.inside items z y (λ p u. ap (λ (f : Footprint). f.ports p) footprint ∙ less (port p) u) refl has.ports);
+            (less_holds r.branch r.parents r.sides r.inside items z y
+            (λ v u. ap (λ (f : Footprint). f.uses v) footprint ∙ less (variable v) u) refl refl has.holds)
+            (less_ports r.branch r.parents r.sides r.inside items z y
+            (λ p u. ap (λ (f : Footprint). f.ports p) footprint ∙ less (port p) u) refl has.ports);
       }
 
   -- jumps before items
@@ -208,7 +219,15 @@ with_child x b branch ss rest = record x { branches = slice_set x.branches b (ma
 
 -- the maker, as it is known where it waits
 abbrev pub waiting_one : (branch child : ℕ) → List Item → Sides → (inside : List ℕ) → Parent
-waiting_one b child rest sides inside = record { branch = b; from = child; count = 1; sync = None; items = rest; sides = sides; inside = inside }
+waiting_one b child rest sides inside = record {
+  branch = b;
+  from = child;
+  count = 1;
+  sync = None;
+  items = rest;
+  sides = sides;
+  inside = inside;
+}
 
 -- the sides of the branch that is made
 abbrev pub sides_under : kernel.Statements → Sides → Sides
@@ -236,7 +255,8 @@ module _ (g : Setting) (r : Runner) where
 
   -- its code begins where that of the `par` does, and what is left to its maker follows
   child_code : (ss : kernel.Statements) (rest : List Item) (exits : List Exit) (child a b j : ℕ) → PiecesAt (code g r) (plan g r) (sides_under ss r.sides) ss [] a b → ItemsFrom g r rest exits b j →
-      ItemsAt (plan g r) (code g r) (sides_under ss r.sides) (EndAt (plan g r) (code g r) r.tie (waiting_one r.branch child rest r.sides r.inside ∷ r.parents)) (todo ss (ends ∷ [])) [] a j
+      ItemsAt (plan g r) (code g r) (sides_under ss r.sides)
+      (EndAt (plan g r) (code g r) r.tie (waiting_one r.branch child rest r.sides r.inside ∷ r.parents)) (todo ss (ends ∷ [])) [] a j
   child_code ss rest exits child a b j pieces others =
       let End = EndAt (plan g r) (code g r) r.tie (waiting_one r.branch child rest r.sides r.inside ∷ r.parents) in
       let at_end : ItemsAt (plan g r) (code g r) (sides_under ss r.sides) End (ends ∷ []) [] b j = record { index = b; here = 0; further = j; jumps = refl; stands = ((exits, others), refl); sum = omega arith } in
@@ -261,10 +281,13 @@ module _ (g : Setting) (r : Runner) where
         known = has.runs.known;
         running = has.runs.running;
         acted = item_acts g.program g.stimulus r.branch z.world has.branch item rest has.runs;
-        rest_there = going_rest g r child parents sides r.inside items j z y (child_of has.branch ss) h.pc h.regs [] h.here refl h.bases refl at_pc fits
+        rest_there = going_rest g r child parents sides r.inside items j z y (child_of has.branch ss) h.pc h.regs [] h.here refl h.bases
+            refl at_pc fits
             (record { known = child_there z.world has.branch ss rest; running = refl; items_are = refl }) has.core
-            (less_holds g r child parents sides r.inside items z y (λ v u. ap (λ (f : Footprint). f.uses v) footprint ∙ child_uses (variable v) ss pos rest u) refl refl has.holds)
-            (less_ports g r child parents sides r.inside items z y (λ p u. ap (λ (f : Footprint). f.ports p) footprint ∙ child_uses (port p) ss pos rest u) refl has.ports);
+            (less_holds g r child parents sides r.inside items z y
+            (λ v u. ap (λ (f : Footprint). f.uses v) footprint ∙ child_uses (variable v) ss pos rest u) refl refl has.holds)
+            (less_ports g r child parents sides r.inside items z y
+            (λ p u. ap (λ (f : Footprint). f.ports p) footprint ∙ child_uses (port p) ss pos rest u) refl has.ports);
       }
 
 -- 3. The end of a branch for which another waits, of a `par` of one branch: it ends, and that one goes on.
@@ -341,7 +364,8 @@ module _ (g : Setting) (r : Runner) (p : Parent) (ps : List Parent) where
         acted =
             ap (λ o. acts_all g.program g.stimulus o (go p.branch ∷ [])) (item_acts g.program g.stimulus r.branch z.world has.branch ends rest has.runs)
             ∙ ap (λ o. acts_all g.program g.stimulus o []) (rises_acts z has.branch has.runs.known w none apart);
-        rest = going_rest g r p.branch ps p.sides p.inside p.items j z y (risen_branch w.branch) h.pc h.regs behind.0 h.here refl h.bases same_syncs at_pc fits
+        rest = going_rest g r p.branch ps p.sides p.inside p.items j z y (risen_branch w.branch) h.pc h.regs behind.0 h.here refl h.bases
+            same_syncs at_pc fits
             (record { known = get_set_same x.branches p.branch w.branch (risen_branch w.branch) there; running = refl; items_are = w.items }) w.on_core holds ports;
       }
     where
@@ -422,8 +446,10 @@ module _ (g : Setting) (r : Runner) (x : World) (branch : Branch) (known : slice
 
 module _ (g : Setting) (r : Runner) (x : World) (branch : Branch) (known : slice_get x.branches r.branch ≡ Some branch) (running : branch.mode ≡ runs) where
   -- and the maker of a `par` of one branch waits with them
-  pub parents_under : (ss : kernel.Statements) (rest : List Item) → branch.core ≡ r.core → branch.family ≡ r.family → branch.sides ≡ r.sides → branch.inside ≡ r.inside → FitOn g r.core rest → ParentsWait g x r.core r.family r.parents r.branch →
-      ParentsWait g (with_child x r.branch branch ss rest) r.core r.family (waiting_one r.branch (length x.branches) rest r.sides r.inside ∷ r.parents) (length x.branches)
+  pub parents_under : (ss : kernel.Statements) (rest : List Item) → branch.core ≡ r.core → branch.family ≡ r.family →
+      branch.sides ≡ r.sides → branch.inside ≡ r.inside → FitOn g r.core rest → ParentsWait g x r.core r.family r.parents r.branch →
+      ParentsWait g (with_child x r.branch branch ss rest) r.core r.family
+      (waiting_one r.branch (length x.branches) rest r.sides r.inside ∷ r.parents) (length x.branches)
   parents_under ss rest core family sides inside fits h = (first, others)
     where
       maker : Branch
@@ -435,7 +461,8 @@ module _ (g : Setting) (r : Runner) (x : World) (branch : Branch) (known : slice
       there : slice_get (slice_set x.branches r.branch maker) r.branch ≡ Some maker
       there = get_set_same x.branches r.branch branch maker known
 
-      first : ParentWaits g (with_child x r.branch branch ss rest) r.core r.family (waiting_one r.branch (length x.branches) rest r.sides r.inside) (length x.branches)
+      first : ParentWaits g (with_child x r.branch branch ss rest) r.core r.family
+          (waiting_one r.branch (length x.branches) rest r.sides r.inside) (length x.branches)
       first = record {
         branch = maker;
         known = get_before (slice_set x.branches r.branch maker) (child_of branch ss ∷ []) r.branch maker there;

@@ -18,15 +18,12 @@ use Rattle.xl_expr.specs.Frames.{Holds, IsNear}
 use Rattle.xl_par.specs.Hands.{Hand}
 use Rattle.xl_plan.specs.Layout.{core_of_port, port_number}
 use Rattle.xr_match.specs.Lives.{Life, Watched}
-use Rattle.xr_match.specs.Meanings.{of_kernel}
-use Rattle.xr_match.specs.Sources.{Told}
 use Rattle.xr_match.specs.Systems.{SomeIs}
-use Rattle.xr_threads.specs.Images.{IsImageOf}
 use Rattle.xr_threads.specs.Living.{AreNamed}
 use Rattle.xr_threads.specs.Roles.{AreRoles, AreUsedSo, HandFits, Roles, got_by, used_by}
 use Rattle.xr_threads.specs.Runners.{Setting, Runner, IsLaidOut, IsPort, MayChange, anyone, of_stack, of_variable, places, port_place}
 use Rattle.xr_threads.specs.ThreadViews.{Guarantee, Owns, StillRuns}
-use Rattle.xr_threads.specs.Standing.{AreLoose, EventsAre, IsRun, IsWanted, NobodyChanges, NobodyHas, Stand, Standing, Stands, StandsBy, ThreadIs, none_rests, only}
+use Rattle.xr_threads.specs.Standing.{AreLoose, EventsAre, IsRun, IsWanted, NobodyChanges, NobodyHas, Stand, Stands, StandsBy, ThreadIs, none_rests, only}
 use Rattle.xr_threads.specs.Turns.{PortIs}
 use Rattle.xr_threads.proofs.Holding.{LeavesLoose, holds_on}
 use Rattle.xl_expr.proofs.Lists.{get_set_same}
@@ -117,9 +114,11 @@ module _ {moment : Moment none_rests} {hand : Option Hand} {thread_at : ThreadAt
     (alive : (mode : ThreadMode) → mode ≡ Running → ThreadIs thread_at.runner.parents branch_at.branch.mode mode)
     (calm : (bit : Bool) → bit ≡ false → EventsAre branch_at.branch.mode branch_at.branch.items bit)
     (on : StillRuns moment.setting thread_at.runner b)
-    (touched : Guarantee moment.setting thread_at.runner (record { core = thread_at.state; world = moment.told.state; hand = hand }) (record { core = b; world = moment.told.state; hand = hand' }))
+    (touched : Guarantee moment.setting thread_at.runner (record { core = thread_at.state; world = moment.told.state; hand = hand })
+    (record { core = b; world = moment.told.state; hand = hand' }))
     (roots : b.roots ≡ thread_at.state.roots) (ends : b.ends ≡ thread_at.state.ends) (who' : Roles) (moved : (thread : ℕ) → Bool)
-    (s : SilentRoles moment.setting moment.roles who' thread_at.core thread_at.thread thread_at.runner hand hand' thread_at.state b branch_at.branch moved) where
+    (s : SilentRoles moment.setting moment.roles who' thread_at.core thread_at.thread thread_at.runner hand hand' thread_at.state b
+    branch_at.branch moved) where
   open moment use {setting as g, image as is, roles as who, watched as w, told as x, standing as st}
   open thread_at use {core as c, thread as t, state as a, at_core as at_c, runner as r, runs as runs_r}
   open branch_at use {branch, known, stand}

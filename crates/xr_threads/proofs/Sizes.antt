@@ -74,7 +74,8 @@ IfMade P (Traps kind) = Unit {0}
 IfMade P Idle = Unit {0}
 
 -- one is changed that counts, and stays as long
-told_if : {A : Type 0} (core : CoreState) (put : A → CoreState) (P : A → Type 0) (did : Did A) → ((a : A) → P a → sizes_of (put a) ≡ sizes_of core) →
+told_if : {A : Type 0} (core : CoreState) (put : A → CoreState) (P : A → Type 0) (did : Did A) →
+    ((a : A) → P a → sizes_of (put a) ≡ sizes_of core) →
     IfMade P did → sizes_after core (told put did) ≡ sizes_of core
 told_if core put P (Made left made sent) h k = h left k
 told_if core put P Paused h k = refl
@@ -83,7 +84,8 @@ told_if core put P Idle h k = refl
 
 -- Timers are as many as before.
 
-timers_sized : (core : CoreState) (timers : List Timer) → length timers ≡ length core.timers → sizes_of (put_timers core timers) ≡ sizes_of core
+timers_sized : (core : CoreState) (timers : List Timer) → length timers ≡ length core.timers →
+    sizes_of (put_timers core timers) ≡ sizes_of core
 timers_sized core timers same = λ i. record {
   words = length core.words;
   timers = same i;
@@ -249,7 +251,8 @@ module _ (home : Home) (core : CoreState) (t : ℕ) (thread : Thread) where
   of_in : (d : Reg) (v : ℕ) (x : Named) → sizes_after core (in_row home core t thread d v x) ≡ sizes_of core
   of_in d v (APort p) = told_sized core _ _ (λ a. refl)
   of_in d v (ATimer n) =
-      told_if core (gets_with put_timers core t thread d) (λ given. length given.left ≡ length core.timers) _ (λ given. timers_sized core given.left)
+      told_if core (gets_with put_timers core t thread d) (λ given. length given.left ≡ length core.timers) _
+      (λ given. timers_sized core given.left)
       (read_sized core.clock core.timers n (slice_get core.timers n))
   of_in d v (AnEnd e) = told_sized core _ _ (λ a. refl)
   of_in d v (ALock l) = told_sized core _ _ (λ a. refl)
@@ -303,7 +306,12 @@ module _ (home : Home) (core : CoreState) (t : ℕ) (thread : Thread) where
   of_row (Setd r s) = of_data (reg_get thread.regs s) (names home thread r)
   of_row Clre =
       events_sized core (cleared core.events t)
-      (record { ports = cleared_many core.events.ports t; timers = cleared_many core.events.timers t; ends = cleared_many core.events.ends t })
+      (record {
+        ports = cleared_many core.events.ports t;
+        timers = cleared_many core.events.timers t;
+        ends = cleared_many
+            core.events.ends t;
+      })
   of_row Waiteu = refl
   of_row (Setsr n) = refl
   of_row (Clrsr n) = refl
@@ -319,9 +327,12 @@ module _ (home : Home) (core : CoreState) (t : ℕ) (thread : Thread) where
   of_row (Chkct r n) = told_sized core _ _ (λ a. refl)
   of_row (Setpt r s) = told_sized core _ _ (λ a. refl)
   of_row (Getts d r) = told_sized core _ _ (λ a. refl)
-  of_row (Setv r k) = of_events (vector_row core.events k) (λ res. vector_many core.events res k (watch_of core.events res)) (names home thread r)
-  of_row (Eeu r) = of_events (enable_row core.events t) (λ res. owner_many core.events res (Some t) (watch_of core.events res)) (names home thread r)
-  of_row (Edu r) = of_events (disable_row core.events) (λ res. owner_many core.events res None (watch_of core.events res)) (names home thread r)
+  of_row (Setv r k) = of_events (vector_row core.events k) (λ res. vector_many core.events res k (watch_of core.events res))
+      (names home thread r)
+  of_row (Eeu r) = of_events (enable_row core.events t) (λ res. owner_many core.events res (Some t) (watch_of core.events res))
+      (names home thread r)
+  of_row (Edu r) = of_events (disable_row core.events) (λ res. owner_many core.events res None (watch_of core.events res))
+      (names home thread r)
   of_row i = told_own core t thread (own_row (own_of core thread) i) (of_own (own_of core thread) i)
 
   of_latched : (x : Res) → sizes_of (latched home core x) ≡ sizes_of core

@@ -17,7 +17,6 @@ use Rattle.xr_match.specs.Implements.{clock_of}
 use Rattle.xr_match.specs.Lives.{Life, Watched, watched_after}
 use Rattle.xr_match.specs.Meanings.{of_kernel}
 use Rattle.xr_match.specs.Sources.{Told}
-use Rattle.xr_threads.specs.Images.{IsImageOf}
 use Rattle.xr_threads.specs.Roles.{AreRoles, AreUsedSo, HasReserves, Roles, used_by}
 use Rattle.xr_threads.specs.Runners.{Setting, Runner}
 use Rattle.xr_threads.specs.Sizes.{sizes_of}
@@ -64,7 +63,8 @@ pub record IsAnswered
 
 module _ {may_rest : (core thread : ℕ) → Bool} {moment : Moment may_rest} {hand : Option Hand} (thread_at : ThreadAt moment hand)
     (moved : (thread : ℕ) → Bool) (own : moved thread_at.thread ≡ true) (b : CoreState) (y : World)
-    (effect : Effect moment.setting moment.roles thread_at.core thread_at.thread thread_at.runner hand moved thread_at.state b moment.told.state y) where
+    (effect : Effect moment.setting moment.roles thread_at.core thread_at.thread thread_at.runner hand moved thread_at.state b
+    moment.told.state y) where
   open moment use {setting as g, image as is, roles as who, watched as w, told as x, standing as st}
   open thread_at use {core as c, thread as t, state as a, at_core as at_c, runner as r, runs as runs_r}
 
@@ -79,12 +79,14 @@ module _ {may_rest : (core thread : ℕ) → Bool} {moment : Moment may_rest} {h
       let ne : (c ≡ c) × (u ≡ t) → ⊥ = λ h. not_own u m h.1 in
       record {
         branch = works.branch;
-        known = own_still moment c t a at_c r hand runs_r moved b y effect c u s other ne runs_s s.branch works.branch (inl refl) works.known ∙ works.known;
+        known = own_still moment c t a at_c r hand runs_r moved b y effect c u s other ne runs_s s.branch works.branch (inl refl)
+            works.known ∙ works.known;
         goes = works.goes;
         core = works.core;
         family = works.family;
         footprint = works.footprint;
-        parents = parents_still g s x.state y s.core s.family s.parents s.branch (parents_left moment c t a at_c r hand runs_r moved b y effect c u s other ne runs_s) works.parents;
+        parents = parents_still g s x.state y s.core s.family s.parents s.branch
+            (parents_left moment c t a at_c r hand runs_r moved b y effect c u s other ne runs_s) works.parents;
         in_hand = works.in_hand;
         sides = works.sides;
         inside = works.inside;
@@ -149,12 +151,14 @@ module _ {may_rest : (core thread : ℕ) → Bool} {moment : Moment may_rest} {h
           kept = λ u s other m runs_s.
               kept_others moment c t a at_c r hand runs_r moved b y effect u s other (not_own u m) m runs_s
               (spare_for g who' y c b (crew_behind lt) u s other (answer.same_role u m ∙ runs_s));
-          far_kept = λ d u e s other ne at_d runs_s. far_others moment c t a at_c r hand runs_r moved b y effect d u e s other ne at_d runs_s;
+          far_kept = λ d u e s other ne at_d runs_s. far_others moment c t a at_c r hand runs_r moved b y effect d u e s other
+              ne at_d runs_s;
           links = answer.links;
           wired = answer.wired;
           alone = answer.alone;
           loose = answer.loose;
-          far_loose = λ d e ne at_d loose. far_loose_still moment c t a at_c r hand runs_r moved b y effect who' answer.far_role d e ne loose;
+          far_loose = λ d e ne at_d loose. far_loose_still moment c t a at_c r hand runs_r moved b y effect who' answer.far_role
+              d e ne loose;
           roots = answer.roots;
           far_roots = answer.far_roots;
           placed = answer.placed;

@@ -16,9 +16,8 @@ use Rattle.xr_match.specs.Implements.{clock_of}
 use Rattle.xr_match.specs.Lives.{Watched, watched_after}
 use Rattle.xr_match.specs.Meanings.{of_kernel}
 use Rattle.xr_match.specs.Sources.{Told}
-use Rattle.xr_threads.specs.Images.{IsImageOf}
 use Rattle.xr_threads.specs.Roles.{AreUsedSo, Roles, used_by}
-use Rattle.xr_threads.specs.Runners.{Setting, Runner, anyone, port_place}
+use Rattle.xr_threads.specs.Runners.{Runner, anyone, port_place}
 use Rattle.xr_threads.specs.ThreadViews.{Rely, SpareFor}
 use Rattle.xr_threads.specs.Standing.{AreLoose, Standing, none_rests}
 use Rattle.xr_threads.proofs.Moments.{Moment}

@@ -9,13 +9,7 @@ use Rattle.xc_meaning.specs.States.Branches.{Branch, runs, side_of}
 use Rattle.xc_meaning.specs.States.Channels.{Side, first, second, other_side}
 use Rattle.xc_meaning.specs.Uses.{by_items}
 use Rattle.xl_par.specs.Hands.{Hand}
-use Rattle.xr_match.specs.Lives.{Watched}
-use Rattle.xr_match.specs.Meanings.{of_kernel}
-use Rattle.xr_match.specs.Sources.{Told}
-use Rattle.xr_threads.specs.Images.{IsImageOf}
-use Rattle.xr_threads.specs.Roles.{Roles, used_by}
-use Rattle.xr_threads.specs.Runners.{IsChannel, Runner, Setting}
-use Rattle.xr_threads.specs.Standing.{Standing}
+use Rattle.xr_threads.specs.Runners.{IsChannel, Runner}
 use Rattle.xr_threads.specs.Transfers.{in_phase}
 use Rattle.xr_threads.specs.Wired.{AreSidesOn, HasAlone, IsLine, IsTransferring}
 use Rattle.xr_threads.proofs.Alone.{alone_begins, alone_excludes}

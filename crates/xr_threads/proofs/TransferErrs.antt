@@ -1,18 +1,11 @@
 -- A thread traps on a channel's end, and its branch errs: it has received something other than what it waits for.
-use Rattle.std.proofs.Common.{◌≡◌, ℕ, ◌++◌, [], ◌∷◌, Some, None, refl, ap, ◌∙◌}
-use Rattle.std.specs.Prelude.{false, slice_get, slice_set}
-use Rattle.xs_instr.specs.declared.state.CoreState.{CoreState}
+use Rattle.std.proofs.Common.{◌++◌, [], ◌∷◌, Some, None, refl, ap, ◌∙◌}
+use Rattle.std.specs.Prelude.{slice_set}
 use Rattle.xs_instr.specs.declared.trace.Record.TheVariants.{Fault}
 use Rattle.xs_instr.specs.Machine.{stepped}
 use Rattle.xs_instr.specs.Slot.{slot, trapped}
-use Rattle.xc_meaning.specs.States.Branches.{Branch}
-use Rattle.xr_match.specs.Lives.{Watched}
-use Rattle.xr_match.specs.Meanings.{of_kernel}
-use Rattle.xr_match.specs.Sources.{Told}
-use Rattle.xr_threads.specs.Images.{IsImageOf}
-use Rattle.xr_threads.specs.Roles.{Roles, used_by}
-use Rattle.xr_threads.specs.Runners.{Runner, Setting, home}
-use Rattle.xr_threads.specs.Standing.{Stand, Standing, none_rests}
+use Rattle.xr_threads.specs.Runners.{home}
+use Rattle.xr_threads.specs.Standing.{none_rests}
 use Rattle.xr_threads.specs.Transfers.{StopsIn}
 use Rattle.xr_threads.specs.Turns.{Errs}
 use Rattle.xr_threads.proofs.InTransfers.{IsFollowed, followed}

@@ -1,34 +1,18 @@
 -- The steps of a transfer without an action of the program's: an output's END, and CHKCT END and ACK of an input.
-use Rattle.std.proofs.Common.{◌≡◌, ℕ, suc, ◌+◌, ◌≤◌, ◌≢◌, inr, List, [], ◌∷◌, Option, Some, None, refl, sym, ap, ◌∙◌, subst, arith}
+use Rattle.std.proofs.Common.{◌≡◌, ℕ, ◌+◌, ◌≤◌, ◌≢◌, inr, List, [], ◌∷◌, Some, None, refl, sym, ap, subst, arith}
 use Rattle.std.specs.Prelude.{Bool, false, ◌&&◌, nat_eq, slice_get}
 use Rattle.std.proofs.lemmas.Bool.{ne_eqb}
-use Rattle.std.proofs.lemmas.Option.{none-some, same_Some}
-use Rattle.xw_words.specs.declared.pos.Pos.{Pos}
 use Rattle.xs_instr.specs.declared.state.ChanEnd.{ChanEnd}
-use Rattle.xs_instr.specs.declared.state.CoreState.{CoreState}
 use Rattle.xs_instr.specs.declared.state.Regs.{Regs}
-use Rattle.xs_instr.specs.declared.state.Thread.{Thread}
-use Rattle.xs_instr.specs.declared.state.Token.{Token}
-use Rattle.xs_instr.specs.Did.{Made}
 use Rattle.xs_instr.specs.Ends.{control_token}
-use Rattle.xs_instr.specs.Machine.{stepped}
-use Rattle.xs_instr.specs.Slot.{slot}
-use Rattle.xc_meaning.specs.States.Branches.{Branch, runs}
-use Rattle.xc_meaning.specs.States.Channels.{Inboxes, Side}
-use Rattle.xl_chan.specs.Protocols.{Acts, sends, takes}
-use Rattle.xl_image.specs.Images.{pair_of}
-use Rattle.xr_match.specs.Lives.{Watched}
-use Rattle.xr_match.specs.Meanings.{of_kernel}
-use Rattle.xr_match.specs.Sources.{Told}
+use Rattle.xc_meaning.specs.States.Branches.{runs}
+use Rattle.xc_meaning.specs.States.Channels.{Side}
 use Rattle.xr_threads.specs.Fits.{ItemsFit}
-use Rattle.xr_threads.specs.Images.{IsImageOf}
-use Rattle.xr_threads.specs.Roles.{Roles, used_by}
-use Rattle.xr_threads.specs.Runners.{Runner, Setting, end_place, home}
+use Rattle.xr_threads.specs.Runners.{Runner}
 use Rattle.xr_threads.specs.ThreadViews.{ThreadView, running}
-use Rattle.xr_threads.specs.Standing.{IfTrue, IsAtRest, Stand, Standing, StandsWith, none_rests}
-use Rattle.xr_threads.specs.Transfers.{GoesWith, Transfer, acts_left, all_but_first, items_behind, steps_left, in_phase}
+use Rattle.xr_threads.specs.Standing.{IfTrue, IsAtRest, StandsWith, none_rests}
+use Rattle.xr_threads.specs.Transfers.{GoesWith, acts_left, all_but_first, items_behind, steps_left, in_phase}
 use Rattle.xr_threads.specs.Turns.{Has, InTransfer, IsBehind, TakesSteps, cost}
-use Rattle.xr_threads.specs.Wired.{AreSidesOn, HasAlone, IsLine, boxes_in}
 use Rattle.xr_threads.proofs.Answers as answers
 use Rattle.xr_threads.proofs.EndRows.{AtEnd, Goal, boxes, ends_row, goes_out, goes_row, inside_there, near_end, sends_row, stays_in}
 use Rattle.xr_threads.proofs.EndSteps as step
@@ -39,8 +23,7 @@ use Rattle.xr_threads.proofs.Protocols.{ack_sent, end_sent, end_taken}
 use Rattle.xr_threads.proofs.Stands.{stands_unwatched}
 use Rattle.xr_threads.proofs.Transferred.{fits_as, has_as, rest_as, steps_as}
 use Rattle.xr_threads.proofs.Watching.{here_at}
-use Rattle.xr_threads.proofs.WiredMoves.{Moves, wired_moves}
-use Rattle.xr_wires.specs.Phases.{Phase, awaits_ack, between, checks_end, offers, sends_ack, sends_end, spot}
+use Rattle.xr_wires.specs.Phases.{Phase, awaits_ack, between, checks_end, offers, sends_ack, sends_end}
 use Rattle.xr_wires.proofs.Near as near
 use Rattle.xr_wires.proofs.Near.{NearEnd, NearEndCheck, Next, NearSend, end_makes, end_pauses, sends_makes, sends_pauses}
 
@@ -103,7 +86,8 @@ module _ {moment : Moment none_rests} {thread_at : ThreadAt moment None} (branch
       let later = awaits_ack (offers v) in
       sends_row branch_at here h.pc h.regs h.here h.pos (control_token 1 ∷ []) (boxes branch_at here) later h.steps.0
       (near.outct_end (near_end branch_at here) r.thread (running r.tie h.pc h.regs) v false here.stands)
-      (goes_row branch_at here h.pc h.regs h.here on (Some (in_phase channel side later)) later (stays_in refl) none_rests (λ d u ne. refl) (1 + j + cost g r) (omega (arith, few))
+      (goes_row branch_at here h.pc h.regs h.here on (Some (in_phase channel side later)) later (stays_in refl) none_rests
+      (λ d u ne. refl) (1 + j + cost g r) (omega (arith, few))
       (later_steps (sends_end v) later j (1 + j + cost g r) (omega arith) h h.goes_with
       (end_sent g r channel side h.pos (IsBehind g r (all_but_first branch.items) j) h.pc h.regs v h.steps)))
 
@@ -114,7 +98,8 @@ module _ {moment : Moment none_rests} {thread_at : ThreadAt moment None} (branch
       let here = at_end checks_end its in
       ends_row branch_at here h.pc h.regs h.here h.pos sends_ack h.steps.0
       (near.chkct_end (near_end branch_at here) r.thread (running r.tie h.pc h.regs) false here.stands)
-      (goes_row branch_at here h.pc h.regs h.here on (Some (in_phase channel side sends_ack)) sends_ack (stays_in refl) none_rests (λ d u ne. refl) (1 + j + cost g r) (omega (arith, few))
+      (goes_row branch_at here h.pc h.regs h.here on (Some (in_phase channel side sends_ack)) sends_ack (stays_in refl) none_rests
+      (λ d u ne. refl) (1 + j + cost g r) (omega (arith, few))
       (later_steps checks_end sends_ack j (1 + j + cost g r) (omega arith) h h.goes_with
       (end_taken g r channel side h.pos (IsBehind g r branch.items j) h.pc h.regs h.steps)))
 
@@ -162,5 +147,6 @@ module _ {moment : Moment none_rests} {thread_at : ThreadAt moment None} (branch
       let here = at_end sends_ack its in
       sends_row branch_at here h.pc h.regs h.here h.pos (control_token 3 ∷ []) (boxes branch_at here) between h.steps.0
       (near.outct_ack (near_end branch_at here) r.thread (running r.tie h.pc h.regs) false here.stands)
-      (goes_row branch_at here h.pc h.regs h.here on None between (goes_out refl refl) (rests_alone c t) (λ d u ne. alone_elsewhere c (nat_eq u t) d ne)
+      (goes_row branch_at here h.pc h.regs h.here on None between (goes_out refl refl) (rests_alone c t)
+      (λ d u ne. alone_elsewhere c (nat_eq u t) d ne)
       (j + cost g r) (omega (arith, few)) (left_it j h))

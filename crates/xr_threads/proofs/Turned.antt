@@ -1,8 +1,7 @@
 -- A thread's turn is answered: behind it the thread stands so again.
-use Rattle.std.proofs.Common.{◌≡◌, ℕ, ◌+◌, ◌-◌, ◌*◌, ◌<◌, ◌≤◌, inl, inr, [], ◌∷◌, List, length, Option, Some, None, refl, sym, ap, ◌∙◌, subst, arith}
+use Rattle.std.proofs.Common.{◌≡◌, ℕ, ◌+◌, ◌-◌, ◌*◌, ◌<◌, ◌≤◌, inl, inr, [], ◌∷◌, List, Option, Some, None, refl, sym, ap, ◌∙◌, subst, arith}
 use Rattle.std.specs.Prelude.{true, false, slice_get}
 use Rattle.std.proofs.lemmas.Option.{same_Some}
-use Rattle.xs_instr.specs.declared.state.CoreState.{CoreState}
 use Rattle.xs_instr.specs.declared.state.Mode.TheVariants.{Trapped}
 use Rattle.xs_instr.specs.declared.state.Thread.{Thread}
 use Rattle.xs_instr.specs.Slot.{trapped}
@@ -13,14 +12,11 @@ use Rattle.xc_meaning.specs.States.Branches.{Branch, runs, ended, erred, has_end
 use Rattle.xc_meaning.specs.States.Worlds.{World}
 use Rattle.xl_par.specs.Hands.{IsAmong}
 use Rattle.xr_match.specs.Lives.{Life, Watched}
-use Rattle.xr_match.specs.Meanings.{of_kernel}
-use Rattle.xr_match.specs.Sources.{Told}
-use Rattle.xr_threads.specs.Images.{IsImageOf}
 use Rattle.xr_threads.specs.Parents.{Parent, branches_of}
-use Rattle.xr_threads.specs.Roles.{IsParent, ParentWaits, ParentsWait, Roles, empty, outermost, used_by}
-use Rattle.xr_threads.specs.Runners.{Setting, Runner, footprint_of, shrunk}
+use Rattle.xr_threads.specs.Roles.{IsParent, ParentWaits, ParentsWait, empty, outermost}
+use Rattle.xr_threads.specs.Runners.{Setting, footprint_of, shrunk}
 use Rattle.xr_threads.specs.ThreadViews.{ThreadView, running, running_so}
-use Rattle.xr_threads.specs.Standing.{HasEnded, Stand, Standing, StandsBy, StandsWith, ThreadIs, counts, none_rests}
+use Rattle.xr_threads.specs.Standing.{HasEnded, Stand, StandsBy, StandsWith, ThreadIs, counts, none_rests}
 use Rattle.xr_threads.specs.Transfers.{StopsIn, Transfer}
 use Rattle.xr_threads.specs.Turns.{Errs, Frees, Goes, IsTiedThread, IsWaitingTied, Waits, cost, failed, finished, is_watching}
 use Rattle.xr_threads.proofs.Answers.{errs_step, frees_step, goes_step, trap_leaves, waits_step}

@@ -97,7 +97,8 @@ module _ (g : Setting) (lines : AreLines g) (who : Roles) (m : Machine) (world :
 
   -- who is inside a transfer then: the thread itself, on this side; or another one that was before
   abbrev IsNow : (d u k : ℕ) → Side → Type 0
-  IsNow d u k x = (Here d u × (k ≡ channel) × (x ≡ side) × (s.transfer ≡ Some (in_phase channel side phase))) ⊎ ((Here d u → ⊥) × IsTransferring who d u k x)
+  IsNow d u k x = (Here d u × (k ≡ channel) × (x ≡ side) × (s.transfer ≡ Some (in_phase channel side phase))) ⊎
+      ((Here d u → ⊥) × IsTransferring who d u k x)
 
   is_now : (d u k : ℕ) (x : Side) → IsTransferring who' d u k x → IsNow d u k x
   is_now d u k x i =
@@ -156,7 +157,8 @@ module _ (g : Setting) (lines : AreLines g) (who : Roles) (m : Machine) (world :
   here_is l x e f = ap (λ k. next.spots k x) e ∙ ap (next.spots line) f ∙ moved_here h.ghosts line side (spot phase false)
 
   late_is : (l : ℕ) (x : Side) → l ≡ line → x ≡ side → next.late l (other_side x) ≡ []
-  late_is l x e f = ap (λ k. next.late k (other_side x)) e ∙ ap (λ y. next.late line (other_side y)) f ∙ late_here h.ghosts line side (spot phase false)
+  late_is l x e f = ap (λ k. next.late k (other_side x)) e ∙ ap (λ y. next.late line (other_side y)) f ∙ late_here h.ghosts line side
+      (spot phase false)
 
   -- a side of a line then
   abbrev Stands : (l k : ℕ) → Side → Type 0
@@ -179,7 +181,8 @@ module _ (g : Setting) (lines : AreLines g) (who : Roles) (m : Machine) (world :
 
           from : Stance g who k x (h.ghosts.spots l x) (h.ghosts.late l (other_side x)) → Stands l k x
           from (in_piece d u i core e late) =
-              in_piece d u (still d u k x (not_here d u i) i) core (elsewhere l x ne ∙ e) (late_elsewhere h.ghosts line side (spot phase false) l x ne ∙ late)
+              in_piece d u (still d u k x (not_here d u i) i) core (elsewhere l x ne ∙ e)
+              (late_elsewhere h.ghosts line side (spot phase false) l x ne ∙ late)
           from (at_rest nobody e late) =
               at_rest (λ d u i. ⊎_elim (λ own. ne (on_line own.1, own.2)) (λ other. nobody d u other.1) (is_now d u k x i)) (elsewhere l x ne ∙ e)
               (late_elsewhere h.ghosts line side (spot phase false) l x ne ∙ late)
@@ -210,7 +213,7 @@ module _ (g : Setting) (lines : AreLines g) (who : Roles) (m : Machine) (world :
                 channel_is = ap (λ (v : Transfer). v.channel) new ∙ sym k_is;
                 side_is = ap (λ (v : Transfer). v.side) new ∙ sym f;
               }) (ap (λ v. core_of g.program v x) k_is ∙ on_core x) (here_is l x e f ∙ ap (λ (v : Transfer). spot v.phase false) (sym new))
-                  (late_is l x e f ∙ ap (λ (v : Transfer). v.late) (sym new))
+              (late_is l x e f ∙ ap (λ (v : Transfer). v.late) (sym new))
       by (inl e) (inr ne) = away (λ both. ne both.1)
       by (inr ne) f = away (λ both. ne both.0)
 

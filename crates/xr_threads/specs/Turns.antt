@@ -168,7 +168,8 @@ abbrev pub piece_acts : Piece → List Act
 piece_acts (puts_out o v) = output_acts v true
 piece_acts (takes_in i) = input_acts R0 true
 
--- what is left to the branch behind its last step, where the thread has these registers then: a word that has come is in r0, and is stored next
+-- what is left to the branch behind its last step, where the thread has these registers then: a word that has come is in r0, and is
+-- stored next
 abbrev pub left_behind : Piece → List Item → Regs → List Item
 left_behind (puts_out o v) rest last = rest
 left_behind (takes_in i) rest last = storing i.target last.r0 rest
@@ -421,7 +422,15 @@ module _ (g : Setting) (r : Runner) where
     pub fewer : jumps ≤ j + 1
     pub own_code : (from count : ℕ) → ItemsAt (plan g r) (code g r) (sides_in 0 [] first (codes_in others) r.sides)
         (EndAt (plan g r) (code g r) r.tie
-        (record { branch = r.branch; from = from; count = count; sync = Some sync; items = rest; sides = r.sides; inside = r.inside } ∷ r.parents))
+        (record {
+          branch = r.branch;
+          from = from;
+          count = count;
+          sync = Some sync;
+          items = rest;
+          sides = r.sides;
+          inside = r.inside;
+        } ∷ r.parents))
         (todo first (ends ∷ [])) [] (pc + 1) jumps
     pub set_off : AreSetOff (row_goes_on (put_threads y.core (all_started y.core.threads sync)) r.thread (running r.tie pc regs) regs)
         sync hand.threads (backwards (placed_in r.sides (first ∷ []) others))
@@ -458,7 +467,8 @@ module _ (g : Setting) (r : Runner) where
     pub fits : ItemsFit g r (does (statement_of piece) ∷ rest)
     pub has : Has (does (statement_of piece) ∷ rest) y
 
-  -- The thread is inside a transfer, of which nothing is late, and takes the steps that are left of it; behind them follows what is left to the branch.
+  -- The thread is inside a transfer, of which nothing is late, and takes the steps that are left of it; behind them follows what is left
+  -- to the branch.
   pub record InTransfer (transfer : Transfer) (items : List Item) (j : ℕ) (z : ThreadView) : Type 0 where
     pub pos : Pos
     pub on_time : transfer.late ≡ []

@@ -41,12 +41,13 @@ pub record IsTransferring (who : Roles) (core thread : ℕ) (c : ℕ) (side : Si
   pub channel_is : transfer.channel ≡ c
   pub side_is : transfer.side ≡ side
 
--- How a side of a channel stands, and what is late to the other side: as the transfer says that a thread on the side's core is in there; or, where none is,
--- in no piece, with nothing late.
+-- How a side of a channel stands, and what is late to the other side: as the transfer says that a thread on the side's core is in there;
+-- or, where none is, in no piece, with nothing late.
 pub data Stance (g : Setting) (who : Roles) (c : ℕ) (side : Side) (at : Spot) (late : List Parcel) : Type 0 where
   in_piece : (core thread : ℕ) (i : IsTransferring who core thread c side) → core_of g.program c side ≡ core →
       at ≡ spot i.transfer.phase false → late ≡ i.transfer.late → Stance g who c side at late
-  at_rest : ((core thread : ℕ) → IsTransferring who core thread c side → ⊥) → at ≡ spot between false → late ≡ [] → Stance g who c side at late
+  at_rest : ((core thread : ℕ) → IsTransferring who core thread c side → ⊥) → at ≡ spot between false → late ≡ [] →
+      Stance g who c side at late
 
 -- The one relation of all channels: a side of a channel stands where the thread does that has begun a transfer on it, and else in no piece; and
 -- there is at most one such thread. It is on the core of the channel's sides.

@@ -19,7 +19,8 @@ use Rattle.xr_wires.proofs.PlainSides as sides
 use Rattle.xr_wires.proofs.PlainSides.{IsPlain}
 
 module _ (near_end : NearEnd)
-    (f h : Phase) (is : near_end.ghosts.spots near_end.line near_end.side ≡ spot f false) (other_is : near_end.ghosts.spots near_end.line (other_side near_end.side) ≡ spot h false) where
+    (f h : Phase) (is : near_end.ghosts.spots near_end.line near_end.side ≡ spot f false)
+    (other_is : near_end.ghosts.spots near_end.line (other_side near_end.side) ≡ spot h false) where
   open near_end use {pairs, cores, boxes, ghosts as g, local as now, line as k, pair as p, side, core, end, is_near as at}
 
   abbrev other : Side
