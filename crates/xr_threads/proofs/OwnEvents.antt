@@ -1,5 +1,5 @@
 -- A branch's own step, by the machine and by the program: its thread has nothing in hand, and no branches are made.
-use Rattle.std.proofs.Common.{◌≡◌, ℕ, ◌+◌, ◌*◌, ◌<◌, ◌≤◌, ◌≢◌, ◌⊎◌, inl, inr, [], ◌∷◌, List, length, Option, Some, None, refl, sym, ap, ◌∙◌, subst, ⊎_elim, arith, eq-eqb}
+use Rattle.std.proofs.Common.{◌≡◌, ℕ, ◌+◌, ◌*◌, ◌<◌, ◌≤◌, ◌≢◌, ◌⊎◌, inl, inr, [], ◌∷◌, List, length, Option, Some, None, refl, sym, ap, ◌∙◌, subst, ⊎_elim, arith, eq-eqb, map}
 use Rattle.std.specs.Prelude.{Bool, true, false, ◌&&◌, ◌||◌, nat_eq, slice_get, slice_set}
 use Rattle.std.proofs.lemmas.Bool.{eqb-true, ne_eqb}
 use Rattle.std.proofs.lemmas.Option.{same_Some}
@@ -7,7 +7,7 @@ use Rattle.std.proofs.Math.Nat.{mul-le-mul_left}
 use Rattle.xs_instr.specs.declared.state.CoreState.{CoreState}
 use Rattle.xs_instr.specs.declared.state.Thread.{Thread}
 use Rattle.xs_instr.specs.declared.trace.Record.{Record}
-use Rattle.xs_instr.specs.Machine.{noted}
+use Rattle.xs_instr.specs.Machine.{noted, no_links}
 use Rattle.xc_disjoint.specs.Needs.{threads_on}
 use Rattle.xc_laws.specs.Tree.{IsWaiting}
 use Rattle.xc_meaning.specs.Counts.Families.{steps_of}
@@ -18,8 +18,10 @@ use Rattle.xc_meaning.specs.States.Worlds.{World, Action}
 use Rattle.xc_meaning.specs.Uses.{by_item, by_items}
 use Rattle.xl_expr.proofs.Lists.{get_set_same, get_set_other}
 use Rattle.xl_par.specs.Hands.{Hand, IsAmong}
+use Rattle.xr_match.specs.Implements.{clock_of}
 use Rattle.xr_match.specs.Lives.{Watched}
 use Rattle.xr_match.specs.Systems.{SomeIs}
+use Rattle.xr_threads.specs.Living.{AreNamed}
 use Rattle.xr_threads.specs.Parents.{Parent, branches_of}
 use Rattle.xr_threads.specs.Roles.{IsParent, ParentsWait, Role, Roles, got_by, own_branches, used_by}
 use Rattle.xr_threads.specs.Runners.{Footprint, Runner, Setting, footprint_of}
@@ -32,7 +34,7 @@ use Rattle.xr_threads.proofs.Alone.{alone_behind}
 use Rattle.xr_threads.proofs.Counts.{far_counts, living_after}
 use Rattle.xr_threads.proofs.Holding.{LeavesLoose, loose_behind}
 use Rattle.xr_threads.proofs.Moments.{Moment, ThreadAt}
-use Rattle.xr_threads.proofs.Moves.{Effect, channel_known, laid_at, same_hand, same_runner, stands_at, works_at}
+use Rattle.xr_threads.proofs.Moves.{Effect, channel_known, laid_at, same_hand, same_runner, stands_at, works_at, HasStepped}
 use Rattle.xr_threads.proofs.NamedLinks.{own_linked, told_one}
 use Rattle.xr_threads.proofs.NamedPieces.{Goes}
 use Rattle.xr_threads.proofs.Pools.{num_is}
@@ -78,9 +80,9 @@ first_unchanged (item ∷ rest) v h = neither (by_item (change v) item) (by_item
     neither true b h = h
     neither false b h = refl
 
--- What a branch's own step leaves of its core and of the program, which does a piece of one action or more with it, one at least for the branch's family.
--- As many roots and roots' branches go on, the thread is tied as before or to nothing, and memory and ports are as the program has them. The thread may be
--- inside a transfer then.
+-- What a branch's own step leaves of its core and of the program, which does a piece of one action or more with it, one at least for the
+-- branch's family. As many roots and roots' branches go on, the thread is tied as before or to nothing, and memory and ports are as the
+-- program has them. The thread may be inside a transfer then.
 pub record OwnStep (g : Setting) (r : Runner) (c : ℕ) (a : CoreState) (x : World) : Type 0 where
   pub left : CoreState
   pub made : Option Record
@@ -215,7 +217,8 @@ module _ {moment : Moment none_rests} (thread_at : ThreadAt moment None)
   core_of_branch = stand_core ∙ core_is
     where
       stand_core : e.branch.core ≡ r.core
-      stand_core = (subst (λ o. SomeIs o (Stand g r false None a x.state (w.lives c t) x.actions)) e.known (stands_at moment c t a r None at_c runs_r)).core
+      stand_core = (subst (λ o. SomeIs o (Stand g r false None a x.state (w.lives c t) x.actions)) e.known
+          (stands_at moment c t a r None at_c runs_r)).core
 
   pub own_far_roots : (d : ℕ) → d ≢ c → living_on d e.world.branches ≡ living_on d x.state.branches
   own_far_roots d ne =
@@ -346,7 +349,8 @@ module _ {moment : Moment none_rests} (thread_at : ThreadAt moment None)
     }
 
     -- and where ends and inboxes stay, the channels are wired as before
-    pub wired_on : e.transfer ≡ r.transfer → e.left.ends ≡ a.ends → e.world.inboxes ≡ x.state.inboxes → AreWired g who_on watched_on.machine e.world
+    pub wired_on : e.transfer ≡ r.transfer → e.left.ends ≡ a.ends → e.world.inboxes ≡ x.state.inboxes →
+        AreWired g who_on watched_on.machine e.world
     wired_on same ends boxes =
         wired_still g who who_on w.machine watched_on.machine c a e.left x.state e.world (own_transfers same) at_c refl ends boxes st.wired
 
@@ -358,16 +362,46 @@ module _ {moment : Moment none_rests} (thread_at : ThreadAt moment None)
         (channel_known g who w.machine x.state st.wired c t r None transfer runs_r was) r.branch e.branch e.next e.known (st.alone c t r None transfer runs_r was)
         piece e.world all_acted own_branch not_over
 
-    module _ (wired : AreWired g who_on watched_on.machine e.world)
+    -- An event of which this is the thread's part: a step of the thread, or another one that lets the branch act. Core c stands behind it
+    -- as the step leaves it, other threads' lives are as long as before, and the names of threads stay.
+    pub record IsEvent (w' : Watched) : Type 0 where
+      pub stepped : HasStepped w w' c a e.left
+      pub clocks : map clock_of w'.machine.cores ≡ e.world.clocks
+      pub trace : w'.machine.trace ≡ noted w.machine.trace e.made
+      pub links : w'.machine.links ≡ no_links
+      pub steps : (u : ℕ) → only_thread t u ≡ false → (w'.lives c u).steps ≡ (w.lives c u).steps
+      pub far_steps : (d u : ℕ) → d ≢ c → (w'.lives d u).steps ≡ (w.lives d u).steps
+      pub named : AreNamed g who w x → AreNamed g who_on w' (told_by g.program g.stimulus x piece e.world)
+
+    -- a step of the thread is one
+    pub is_step : IsEvent watched_on
+    is_step =
+        let o = only_thread t in
+        let self = eq-eqb t t refl in
+        record {
+          stepped = has_stepped thread_at o self e.left e.world own_effect e.made e.touched.sizes;
+          clocks = clocks_still thread_at o self e.left e.world own_effect e.made;
+          trace = refl;
+          links = st.links;
+          steps = λ u m. steps_still thread_at o self e.left e.world own_effect e.made u m;
+          far_steps = λ d u ne. far_steps_still thread_at o self e.left e.world own_effect e.made d u ne;
+          named = λ names.
+              own_linked g none_rests who w x st names watched_on.machine c t a e.left at_c at_left r s runs_r refl
+              (told_by g.program g.stimulus x piece e.world) own_goes e.syncs others_there;
+        }
+
+    module _ (w' : Watched) (event : IsEvent w') (wired : AreWired g who_on w'.machine e.world)
         (alone : (transfer : Transfer) → e.transfer ≡ Some transfer → HasAlone e.world.branches transfer.channel transfer.side r.branch)
-        (stand : Stand g s (may_rest' c t) None e.left e.world (watched_on.lives c t) (told_by g.program g.stimulus x piece e.world).actions e.next) where
-      own_stand : (u : ℕ) → only_thread t u ≡ true → Stands g (may_rest' c u) e.left e.world (watched_on.lives c u) (told_by g.program g.stimulus x piece e.world).actions (who_on c u)
+        (stand : Stand g s (may_rest' c t) None e.left e.world (w'.lives c t) (told_by g.program g.stimulus x piece e.world).actions
+        e.next) where
+      own_stand : (u : ℕ) → only_thread t u ≡ true →
+          Stands g (may_rest' c u) e.left e.world (w'.lives c u) (told_by g.program g.stimulus x piece e.world).actions (who_on c u)
       own_stand u m =
           let actions = (told_by g.program g.stimulus x piece e.world).actions in
           let at : u ≡ t = eqb-true u t m in
-          subst (λ k. Stands g (may_rest' c k) e.left e.world (watched_on.lives c k) actions (who_on c k)) (sym at)
-          (subst (Stands g (may_rest' c t) e.left e.world (watched_on.lives c t) actions) (sym (role_here who c t (used_by s None)))
-          (subst (λ o. SomeIs o (Stand g s (may_rest' c t) None e.left e.world (watched_on.lives c t) actions)) (sym own_branch) stand))
+          subst (λ k. Stands g (may_rest' c k) e.left e.world (w'.lives c k) actions (who_on c k)) (sym at)
+          (subst (Stands g (may_rest' c t) e.left e.world (w'.lives c t) actions) (sym (role_here who c t (used_by s None)))
+          (subst (λ o. SomeIs o (Stand g s (may_rest' c t) None e.left e.world (w'.lives c t) actions)) (sym own_branch) stand))
 
       own_alone : (u : ℕ) (i : Runner) (hand : Option Hand) (transfer : Transfer) → only_thread t u ≡ true → who_on c u ≡ used_by i hand → i.transfer ≡ Some transfer → HasAlone e.world.branches transfer.channel transfer.side i.branch
       own_alone u i hand transfer m at its =
@@ -375,8 +409,9 @@ module _ {moment : Moment none_rests} (thread_at : ThreadAt moment None)
           subst (λ (k : Runner). HasAlone e.world.branches transfer.channel transfer.side k.branch) same
           (alone transfer (ap (λ (k : Runner). k.transfer) same ∙ its))
 
-      pub goes_on_answered : Follows g may_rest' who w x watched_on
-      goes_on_answered =
+      -- so the two sides stand so again behind it
+      pub event_follows : Follows g may_rest' who w x w'
+      event_follows =
           let o = only_thread t in
           let self = eq-eqb t t refl in
           record {
@@ -384,12 +419,11 @@ module _ {moment : Moment none_rests} (thread_at : ThreadAt moment None)
             piece = piece;
             world = e.world;
             acted = all_acted;
-            standing = answered thread_at o self e.left e.world own_effect may_rest' who_on watched_on piece
-                (has_stepped thread_at o self e.left e.world own_effect e.made e.touched.sizes)
+            standing = answered thread_at o self e.left e.world own_effect may_rest' who_on w' piece event.stepped
                 (record {
                   acted = all_acted;
-                  clocks = clocks_still thread_at o self e.left e.world own_effect e.made;
-                  trace = ap (λ l. noted l e.made) st.trace ∙ sym e.is_next.trace;
+                  clocks = event.clocks;
+                  trace = event.trace ∙ ap (λ l. noted l e.made) st.trace ∙ sym e.is_next.trace;
                   roles = roles_go_on g who c t st.roles r None runs_r s None (record { seated = seated; held = refl; sync = λ n f. inl f; branches = λ n m. inl m });
                   reserves = reserves_of_others g who e.world (reserves_behind g who x.state st.lawful st.reserves piece e.world all_acted) who_on gives_as_before;
                   used = used_on g who c t st.roles r None runs_r a e.left (st.used c a at_c) s None others_used
@@ -400,10 +434,10 @@ module _ {moment : Moment none_rests} (thread_at : ThreadAt moment None)
                   far_role = λ d u ne. role_far who c t (used_by s None) d u ne;
                   rests = λ u m none. absurd (false_true none);
                   far_rests = λ d u ne none. absurd (false_true none);
-                  steps = λ u m. steps_still thread_at o self e.left e.world own_effect e.made u m;
-                  far_steps = λ d u ne. far_steps_still thread_at o self e.left e.world own_effect e.made d u ne;
+                  steps = event.steps;
+                  far_steps = event.far_steps;
                   stand = own_stand;
-                  links = st.links;
+                  links = event.links;
                   wired = wired;
                   alone = own_alone;
                   loose = loose_on;
@@ -413,8 +447,14 @@ module _ {moment : Moment none_rests} (thread_at : ThreadAt moment None)
                   run = run_on;
                   made = own_made;
                 });
-            named = λ names. own_linked g none_rests who w x st names watched_on.machine c t a e.left at_c at_left r s runs_r refl (told_by g.program g.stimulus x piece e.world) own_goes e.syncs others_there;
+            named = event.named;
           }
         where
           false_true : false ≡ true → ⊥
           false_true f = cc
+
+    pub goes_on_answered : AreWired g who_on watched_on.machine e.world →
+        ((transfer : Transfer) → e.transfer ≡ Some transfer → HasAlone e.world.branches transfer.channel transfer.side r.branch) →
+        Stand g s (may_rest' c t) None e.left e.world (watched_on.lives c t) (told_by g.program g.stimulus x piece e.world).actions e.next →
+        Follows g may_rest' who w x watched_on
+    goes_on_answered wired alone stand = event_follows watched_on is_step wired alone stand

@@ -120,8 +120,14 @@ module _ (g : Setting) (r : Runner) where
       ports = record {
         pc = pc;
         regs = regs;
-        here = here_at items (code_unwatched (plan g r) (code g r) sides (EndAt (plan g r) (code g r) r.tie ps) items exits pc j at_code) (ap (λ c. slice_get c.threads r.thread) same_core ∙ here);
-        bases = record { base = bases.base; stack = bases.stack; names = subst (λ syncs. HoldsNames r.core syncs regs) (sym same_syncs) bases.names };
+        here = here_at items (code_unwatched (plan g r) (code g r) sides (EndAt (plan g r) (code g r) r.tie ps) items exits pc j at_code)
+            (ap (λ c. slice_get c.threads r.thread) same_core ∙ here);
+        bases = record {
+          base = bases.base;
+          stack = bases.stack;
+          names = subst (λ syncs. HoldsNames r.core syncs regs) (sym same_syncs)
+              bases.names;
+        };
         stands = items_stand g (going r b ps sides inside items) items exits pc j regs y.core at_code;
         fits = fits;
         has = record { branch = branch; runs = works; core = core; holds = holds; ports = ports };
