@@ -25,7 +25,7 @@ acts_left (sends_end v) = output_ends true
 acts_left (awaits_ack q) = takes ACK ∷ []
 acts_left checks_end = input_ends true
 acts_left sends_ack = sends (control_token ACK ∷ []) ∷ []
-acts_left was_closed = []
+acts_left was_closed = sends (control_token ACK ∷ []) ∷ []
 acts_left streams = []
 
 abbrev pub steps_left : Phase → ℕ
