@@ -1,16 +1,18 @@
 -- The words and ports of a core, as its plan lays them out for whoever runs there.
-use Rattle.std.proofs.Common.{◌≡◌, inl, inr, ⊎_elim, ℕ, ◌+◌, ◌^◌, ◌<◌, ◌≤◌, true, List, length, Option, Some, Contains, slice_get, option_map, nat_eq, refl, sym, ap, subst, ◌∙◌, arith}
+use Rattle.std.proofs.Common.{◌≡◌, inl, inr, ⊎_elim, ℕ, ◌+◌, ◌^◌, ◌<◌, ◌≤◌, true, List, length, Option, Some, Contains, slice_get, option_map, nat_eq, refl, sym, ap, subst, ◌∙◌, arith, eq-eqb}
 use Rattle.std.proofs.lemmas.Option.{slice_get-map}
 use Rattle.xs_instr.specs.declared.image.PortDecl.{PortDecl}
 use Rattle.xs_instr.specs.Machine.{parts_in}
 use Rattle.xs_instr.specs.OwnSteps.{IsApart, temporary}
 use Rattle.xc_kernel.specs.declared.kernel.PortUse.{PortUse}
+use Rattle.xc_kernel.specs.declared.kernel.Timer.{Timer}
 use Rattle.xc_kernel.specs.declared.kernel.Var.{Var}
 use Rattle.xc_kernel.specs.Plain as kernel
 use Rattle.xc_meaning.specs.Counts.KernelCounts.{words_in}
 use Rattle.xc_meaning.proofs.Basics.{or_right}
 use Rattle.xc_disjoint.specs.Checked.{IsChecked}
-use Rattle.xc_disjoint.specs.Needs.{words_on, threads_on}
+use Rattle.xc_disjoint.specs.Cores.{if_so}
+use Rattle.xc_disjoint.specs.Needs.{words_on, threads_on, timers_of}
 use Rattle.xl_expr.specs.declared.plan.VarPlan.{VarPlan}
 use Rattle.xl_expr.specs.Frames.{Frame, IsNear}
 use Rattle.xl_expr.specs.Plans.{var_in}
@@ -24,7 +26,7 @@ use Rattle.xl_plan.proofs.Numbered.{listed}
 use Rattle.xl_plan.proofs.PortsDiffer.{ports_apart}
 use Rattle.xl_plan.proofs.Sizes.{few_words}
 use Rattle.xr_threads.specs.Images.{IsCoreOf}
-use Rattle.xr_threads.specs.Runners.{Block, Setting, Runner, IsLaidOut, IsPort, anyone, is_among_words, is_word_among, outside, places, plan, plan_in, port_place, relied}
+use Rattle.xr_threads.specs.Runners.{Block, Setting, Runner, IsLaidOut, IsPort, anyone, is_among_words, is_word_among, outside, places, plan, plan_in, port_place, relied, IsTimer, timer_place}
 use Rattle.xr_threads.proofs.Footprints.{HasAll, words_there}
 use Rattle.xr_threads.proofs.ImagedEnds.{ends_planned}
 use Rattle.xr_threads.proofs.ImagedPlans.{IsImaged}
@@ -99,6 +101,14 @@ module _ (g : Setting) (checked : IsChecked g.program) (core : ℕ) (is_core : c
       ∙ slice_get-map decl_of (ports_on core g.program.ports) (port_place g (anyone core) p)
       ∙ ap (option_map decl_of) (listed core_of_port core g.program.ports p x is.known is.core)
 
+  -- the core's part counts the timers, and each has its number among them
+  pub timers_are : (t : ℕ) (x : Timer) → IsTimer g (anyone core) t x → timer_place g (anyone core) t < (parts_in g.image.cores core).timers
+  timers_are t x is =
+      let all = within_all (timers_of core) g.program.timers t x is.known in
+      let one : timers_of core x ≡ 1 = ap (λ b. if_so b 1) (eq-eqb x.core core is.core) in
+      let many = im.timers in
+      omega (arith, all, one, many)
+
   -- a port's number is small
   place_small : (p : ℕ) (x : PortUse) → slice_get g.program.ports p ≡ Some x → port_place g (anyone core) p < 2 ^ 16
   place_small p x e =
@@ -155,5 +165,6 @@ core_is g checked stay core is_core im = record {
   stacks = im.planned.first_stack;
   sizes = sizes_are g checked core is_core im;
   ports = ports_are g checked core is_core im;
+  timers = timers_are g checked core is_core im;
   ports_differ = λ p q listed other is is' same. numbers_differ core_of_port g.program.ports core p q listed other is.known is'.known is.core is'.core same;
 }

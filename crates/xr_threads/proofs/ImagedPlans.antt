@@ -5,7 +5,7 @@ use Rattle.xs_instr.specs.declared.image.Image.{Image}
 use Rattle.xs_instr.specs.Machine.{no_parts, parts_by, parts_in}
 use Rattle.xs_instr.specs.Valid.{AreGoodCores, Valid}
 use Rattle.xc_kernel.specs.Plain as kernel
-use Rattle.xc_disjoint.specs.Needs.{ends_on, words_on}
+use Rattle.xc_disjoint.specs.Needs.{ends_on, words_on, timers_on}
 use Rattle.xl_expr.specs.declared.plan.Plan.{Plan}
 use Rattle.xl_image.specs.Images.{IsCoreImage, IsImage, IsPlan, RootAt, decl_of, root_sides, roots_on, thread_of}
 use Rattle.xl_plan.specs.Planned.{ports_on}
@@ -16,6 +16,7 @@ use Rattle.xr_threads.proofs.Roots.{listed_on}
 pub record IsImaged (K : kernel.Kernel) (core : ℕ) (part : CoreImage) (plan : Plan) : Type 0 where
   pub planned : IsPlan K core plan
   pub words : part.words ≡ words_on K core
+  pub timers : part.timers ≡ timers_on K core
   pub ports : part.ports ≡ map decl_of (ports_on core K.ports)
   pub ends : part.ends ≡ ends_on K core
   pub as_many : length part.roots ≡ length (roots_on core K.roots)
@@ -63,6 +64,7 @@ module _ (K : kernel.Kernel) where
   imaged_by parts core (there is n) place part e s = record {
     planned = subst (λ c. IsPlan K c is.plan) n is.planned;
     words = is.words ∙ ap (words_on K) n;
+    timers = is.timers ∙ ap (timers_on K) n;
     ports = is.ports ∙ ap (λ c. map decl_of (ports_on c K.ports)) n;
     ends = is.ends ∙ ap (ends_on K) n;
     as_many = is.as_many ∙ ap (λ c. length (roots_on c K.roots)) n;

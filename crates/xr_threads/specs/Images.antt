@@ -22,14 +22,15 @@ use Rattle.xl_plan.specs.Layout.{is_used_on, temporary_of}
 use Rattle.xr_match.specs.Meanings.{root_among}
 use Rattle.xr_threads.specs.Fits.{FitOn}
 use Rattle.xr_threads.specs.Roles.{Role, Roles, unused, used_by}
-use Rattle.xr_threads.specs.Runners.{Setting, Runner, IsLaidOut, IsPort, anyone, footprint_of, home, outside, places, plan, port_place}
+use Rattle.xr_threads.specs.Runners.{Setting, Runner, IsLaidOut, IsPort, IsTimer, anyone, footprint_of, home, outside, places, plan, port_place, timer_place}
 use Rattle.xr_threads.specs.Plain.{ArePlain}
 use Rattle.xr_threads.specs.Standing.{living_on}
 use Rattle.xr_threads.specs.Wired.{AreSidesOn, IsLine}
 use Rattle.xr_wires.specs.Wires.{IsWired, place}
+use Rattle.xc_kernel.specs.declared.kernel.Timer.{Timer}
 
 -- What is so of a core of which threads are needed, whoever runs there: each thread of which it has need, with any footprint, is laid out, and has
--- its temporary words; the variables and ports are there.
+-- its temporary words; the variables, ports and timers are there.
 pub record IsCoreOf (g : Setting) (c : ℕ) : Type 0 where
   pub laid : (r : Runner) → r.core ≡ c → r.thread < threads_on g.program c → r.block ≡ outside → r.stack ≡ temporary_of g.program c r.thread →
       ((v : ℕ) → r.footprint.changes v ≡ true → r.footprint.uses v ≡ true) → IsLaidOut g r
@@ -39,6 +40,7 @@ pub record IsCoreOf (g : Setting) (c : ℕ) : Type 0 where
       (found.words ≡ words_in g.program.variables v) × (n + found.words ≤ (parts_in g.image.cores c).words)
   pub ports : (p : ℕ) (listed : PortUse) → IsPort g (anyone c) p listed →
       slice_get (parts_in g.image.cores c).ports (port_place g (anyone c) p) ≡ Some (decl_of listed)
+  pub timers : (t : ℕ) (listed : Timer) → IsTimer g (anyone c) t listed → timer_place g (anyone c) t < (parts_in g.image.cores c).timers
   pub ports_differ : (p q : ℕ) (listed other : PortUse) → IsPort g (anyone c) p listed → IsPort g (anyone c) q other →
       port_place g (anyone c) p ≡ port_place g (anyone c) q → p ≡ q
 
