@@ -29,7 +29,7 @@ use Rattle.xr_threads.proofs.Alone.{alone_behind}
 use Rattle.xr_threads.proofs.Apartness.{apart_of_runners, laid_of_role, own_variables}
 use Rattle.xr_threads.proofs.Holding.{far_wanted, loose_far}
 use Rattle.xr_threads.proofs.Lines.{line_known}
-use Rattle.xr_threads.proofs.Moments.{Moment}
+use Rattle.xr_threads.proofs.Moments.{Moment, ThreadAt}
 use Rattle.xr_threads.proofs.Plains.{plain_behind}
 use Rattle.xr_threads.proofs.Reserves.{laws_behind}
 use Rattle.xr_threads.proofs.Rooms.{spare_for}
@@ -177,7 +177,8 @@ moves g may_rest may_rest' who who' w w' x c a b moved piece y st step next =
           (cases_eq d c);
       sizes = λ d e at.
           ⊎_elim
-          (λ (h : d ≡ c). ap sizes_of (sym (is_b d e h at)) ∙ step.sizes ∙ st.sizes c a step.was ∙ ap (λ k. sizes_in (parts_in g.image.cores k)) (sym h))
+          (λ (h : d ≡ c). ap sizes_of (sym (is_b d e h at)) ∙ step.sizes ∙ st.sizes c a step.was ∙ ap
+          (λ k. sizes_in (parts_in g.image.cores k)) (sym h))
           (λ (ne : d ≢ c). let o = far d e ne at in ap sizes_of o.2.is ∙ st.sizes d o.0 o.1)
           (cases_eq d c);
       wired = next.wired;
@@ -347,8 +348,10 @@ module _ {may_rest : (core thread : ℕ) → Bool} (moment : Moment may_rest) wh
     spare = spare_for g who x.state d e (crew_at d e at) u s other runs_s;
   }
 
-  module _ (c t : ℕ) (a : CoreState) (at_c : slice_get w.machine.cores c ≡ Some a) (r : Runner) (hand : Option Hand) (runs_r : who c t ≡ used_by r hand)
-      (moved : (thread : ℕ) → Bool) (b : CoreState) (y : World) (effect : Effect g who c t r hand moved a b x.state y) where
+  module _ {hand : Option Hand} (thread_at : ThreadAt moment hand) (moved : (thread : ℕ) → Bool) (b : CoreState) (y : World)
+      (effect : Effect g who thread_at.core thread_at.thread thread_at.runner hand moved thread_at.state b x.state y) where
+    open thread_at use {core as c, thread as t, state as a, at_core as at_c, runner as r, runs as runs_r}
+
     -- a branch of another runner's, which runs or waits, is there still
     pub own_still : (d u : ℕ) (s : Runner) (other : Option Hand) → ((d ≡ c) × (u ≡ t) → ⊥) → who d u ≡ used_by s other → (n : ℕ) (branch : Branch) → IsAmong (own_branches s) n → slice_get x.state.branches n ≡ Some branch → slice_get y.branches n ≡ slice_get x.state.branches n
     own_still d u s other ne runs_s n branch m known =

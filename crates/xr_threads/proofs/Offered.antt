@@ -50,7 +50,8 @@ module _ (g : Setting) (r : Runner) (laid : IsLaidOut g r) (o : kernel.Output) (
 
   -- at the first step of the protocol
   offers_there : (z y q : ThreadView) (regs : Regs) (v : ℕ) → HasBases g r regs → Rely g r y q → q.hand ≡ None → Has g r (item ∷ rest) q → eval q.world.store o.value ≡ word v →
-      AtProtocol (home g r) (relied g r) r.stack r.thread (end_place g r c side) (running r.tie pc regs) z.core.words o.pos (output_acts v true) (EndsAt pc') y.core → Communicates g r (puts_out o v) j q
+      AtProtocol (home g r) (relied g r) r.stack r.thread (end_place g r c side) (running r.tie pc regs) z.core.words o.pos
+      (output_acts v true) (EndsAt pc') y.core → Communicates g r (puts_out o v) j q
   offers_there z y q regs v bases kept no_hand has is at = record {
     rest = rest;
     on = record { channel = c; is_channel = to_channel; side = side; stands_in = stands_in };
@@ -88,7 +89,8 @@ module _ (g : Setting) (r : Runner) (laid : IsLaidOut g r) (o : kernel.Output) (
       still d e = eval_still (plan g r).vars r.footprint.uses z.world.store q.world.store since'.store o.value fits.value ∙ e
 
       by : (v : Value) → eval z.world.store o.value ≡ v → OutputReaches (home g r) (relied g r) r.stack r.thread (end_place g r c side) (running r.tie pc regs) z.core.words true o.pos pc' v y.core → Turn g r j q
-      by (word v) e at = turn.communicates (puts_out o v) (offers_there z y q regs v bases k (since'.hand ∙ no_hand) has_q (still (word v) e) at)
+      by (word v) e at = turn.communicates (puts_out o v)
+          (offers_there z y q regs v bases k (since'.hand ∙ no_hand) has_q (still (word v) e) at)
       by (error kind pos) e traps =
           turn.errs (value_errs g r q item rest kind pos (traps q.core (core_kept g r k)) has_q (since'.hand ∙ no_hand) (output_step q.world has_q.branch (error kind pos) (still (error kind pos) e)))
 

@@ -17,7 +17,15 @@ use Rattle.xr_threads.proofs.Indices.{among_index, index_among, index_of, index_
 
 module _ (g : Setting) (who : Roles) (c t : ℕ) (roles : AreRoles g who) (r : Runner) (h : Hand) (was : who c t ≡ used_by r (Some h)) (sync : ℕ) (sync_is : h.sync ≡ Some sync) (from : ℕ) (first rest : List Item) (items_of : (index : ℕ) → List Item) (sides_of : (index : ℕ) → Sides) where
   abbrev pub parent : Parent
-  parent = record { branch = r.branch; from = from; count = suc (length h.threads); sync = Some sync; items = rest; sides = r.sides; inside = r.inside }
+  parent = record {
+    branch = r.branch;
+    from = from;
+    count = suc (length h.threads);
+    sync = Some sync;
+    items = rest;
+    sides = r.sides;
+    inside = r.inside;
+  }
 
   -- the thread itself runs the first branch
   abbrev pub own : Runner

@@ -109,7 +109,8 @@ module _ {moment : Moment none_rests} (thread_at : ThreadAt moment None)
       none_some : (transfer : Transfer) → ◌≡◌ {A = Option Transfer} None (Some transfer) → ⊥
       none_some transfer f = cc
 
-  pub leaves_answered : r.transfer ≡ None → e.left.ends ≡ a.ends → e.world.inboxes ≡ x.state.inboxes → Follows g none_rests who w x watched_off
+  pub leaves_answered : r.transfer ≡ None → e.left.ends ≡ a.ends → e.world.inboxes ≡ x.state.inboxes →
+      Follows g none_rests who w x watched_off
   leaves_answered none ends boxes =
       let o = only_thread t in
       let self = eq-eqb t t refl in
@@ -126,7 +127,8 @@ module _ {moment : Moment none_rests} (thread_at : ThreadAt moment None)
               trace = ap (λ l. noted l e.made) st.trace ∙ sym e.is_next.trace;
               roles = roles_leave g who c t st.roles r runs_r tie parents;
               reserves = reserves_of_others g who e.world (reserves_behind g who x.state st.lawful st.reserves piece e.world acted) who_off gives_off;
-              used = used_leave g who c t st.roles r runs_r parents a e.left (st.used c a at_c) (others_used thread_at e) e.syncs (subst (λ k. IsFree (slice_get e.left.threads k)) (thread_is thread_at e) free);
+              used = used_leave g who c t st.roles r runs_r parents a e.left (st.used c a at_c) (others_used thread_at e) e.syncs
+                  (subst (λ k. IsFree (slice_get e.left.threads k)) (thread_is thread_at e) free);
               same_role = same_role thread_at e unused;
               far_role = λ d u ne. role_far who c t unused d u ne;
               rests = λ u m none. none;
@@ -149,5 +151,6 @@ module _ {moment : Moment none_rests} (thread_at : ThreadAt moment None)
               run = run_off;
               made = own_made thread_at e;
             });
-        named = λ names. leaves_linked g none_rests who w x st names watched_off.machine c t a e.left at_c (at_left thread_at e) r runs_r e.piece e.world e.next e.branch e.paid e.known e.birth e.is_next.branches e.syncs (others_there thread_at e);
+        named = λ names. leaves_linked g none_rests who w x st names watched_off.machine c t a e.left at_c (at_left thread_at e) r runs_r
+            e.piece e.world e.next e.branch e.paid e.known e.birth e.is_next.branches e.syncs (others_there thread_at e);
       }

@@ -61,7 +61,15 @@ module _ (g : Setting) (r : Runner) (ss : kernel.Statements) (pos : Pos) (b : ke
   module _ (rest : List Item) (exits : List Exit) (pc pc' j : ℕ) (piece : Piece pc pc') (fits : Fits g r (kernel.par all)) (behind : ItemsFrom g r rest exits pc' j) (rest_fits : ItemsFit g r rest) (z : ThreadView) (regs : Regs) (bases : HasBases g r regs) where
     -- the branch that makes them, while it waits
     abbrev parent : (sync from count : ℕ) → Parent
-    parent sync from count = record { branch = r.branch; from = from; count = count; sync = Some sync; items = rest; sides = r.sides; inside = r.inside }
+    parent sync from count = record {
+      branch = r.branch;
+      from = from;
+      count = count;
+      sync = Some sync;
+      items = rest;
+      sides = r.sides;
+      inside = r.inside;
+    }
 
     abbrev EndWith : (sync from count : ℕ) → (pc j : ℕ) → Type 0
     EndWith sync from count = EndAt (plan g r) (code g r) r.tie (parent sync from count ∷ r.parents)

@@ -136,7 +136,8 @@ module _ (moment : Moment none_rests)
     not_resuming items j gives =
         let runs_back = runs_r ∙ ap (used_by r) gives.in_hand in
         not_made _ None
-        (gives.frees a gives.here (taken (thread_of moment c t a at_c r (giving_back gives.sync) runs_back)) (nobody_tied (thread_of moment c t a at_c r (giving_back gives.sync) runs_back)))
+        (gives.frees a gives.here (taken (thread_of moment c t a at_c r (giving_back gives.sync) runs_back))
+        (nobody_tied (thread_of moment c t a at_c r (giving_back gives.sync) runs_back)))
 
     -- a branch that runs waits
     running_still : (items : List Item) (left : ℕ) → StandsBy g r false items runs left now → CannotAct g r x.state

@@ -147,7 +147,8 @@ module _ (moment : Moment none_rests)
       end_come : ghosts.spots line side ≡ spot checks_end false → its_end.tokens ≡ [] → ⊥
       end_come spot_is none = let s = each_stuck moment quiet line channel (other_side side) is_line in by s s.stuck
         where
-          by : (s : IsStuck moment quiet line channel (other_side side)) → IsAwaiting s.phase ⊎ (Goes w.machine.cores boxes ghosts line its_pair (other_side side) → ⊥) → ⊥
+          by : (s : IsStuck moment quiet line channel (other_side side)) →
+              IsAwaiting s.phase ⊎ (Goes w.machine.cores boxes ghosts line its_pair (other_side side) → ⊥) → ⊥
           by s (inl h) =
               let owed = nothing_owed its_near checks_end s.phase spot_is s.spot_is (awaiting_sent s.phase h) none refl in
               cc
@@ -157,7 +158,8 @@ module _ (moment : Moment none_rests)
       no_answer : (v : ℕ) → ghosts.spots line side ≡ spot (awaits_ack (offers v)) false → its_end.tokens ≡ [] → parcels boxes line side ≡ []
       no_answer v spot_is none = let s = each_stuck moment quiet line channel (other_side side) is_line in by s s.stuck
         where
-          by : (s : IsStuck moment quiet line channel (other_side side)) → IsAwaiting s.phase ⊎ (Goes w.machine.cores boxes ghosts line its_pair (other_side side) → ⊥) → parcels boxes line side ≡ []
+          by : (s : IsStuck moment quiet line channel (other_side side)) →
+              IsAwaiting s.phase ⊎ (Goes w.machine.cores boxes ghosts line its_pair (other_side side) → ⊥) → parcels boxes line side ≡ []
           by s (inl h) =
               nothing_came its_near (awaits_ack (offers v)) s.phase spot_is s.spot_is (awaiting_sent s.phase h) none refl refl
           by s (inr stays) =
@@ -202,7 +204,8 @@ module _ (moment : Moment none_rests)
         let channel = h.on.channel in
         let side = h.on.side in
         let used = piece_channel g r (puts_out o v) h.rest channel h.on.is_channel h.fits in
-        let at = begins_on none h.has.branch (does (kernel.output o) ∷ h.rest) h.has.runs channel side used (piece_uses (puts_out o v) h.rest channel h.on.is_channel) h.on.stands_in in
+        let at = begins_on none h.has.branch (does (kernel.output o) ∷ h.rest) h.has.runs channel side used
+        (piece_uses (puts_out o v) h.rest channel h.on.is_channel) h.on.stands_in in
         four_sent channel side at.line at.is_line at.on_core at.spot_is
         (sends_wait moment quiet thread_at channel side at.line at.is_line at.on_core o.pos h.pc h.regs h.here (word_tokens v) h.steps.0)
 
@@ -213,10 +216,13 @@ module _ (moment : Moment none_rests)
         let side = h.on.side in
         let runs = h.has.runs in
         let used = piece_channel g r (takes_in i) h.rest channel h.on.is_channel h.fits in
-        let at = begins_on none h.has.branch (does (kernel.input i) ∷ h.rest) runs channel side used (piece_uses (takes_in i) h.rest channel h.on.is_channel) h.on.stands_in in
+        let at = begins_on none h.has.branch (does (kernel.input i) ∷ h.rest) runs channel side used
+        (piece_uses (takes_in i) h.rest channel h.on.is_channel) h.on.stands_in in
         let slow = word_waits moment quiet thread_at channel side at.line at.is_line at.on_core i.pos h.pc h.regs h.here R0 h.steps.0 in
         let nothing = its_inbox channel side at.line at.is_line at.on_core (no_word channel side at.line at.is_line at.on_core at.spot_is slow.0 slow.1) in
-        input_cannot g r x.state h.has.branch (does (kernel.input i)) h.rest runs channel side (stands_on h.has.branch runs.known channel side h.on.stands_in) (st.plain.outside r.branch h.has.branch runs.known) nothing i refl h.on.is_channel
+        input_cannot g r x.state h.has.branch (does (kernel.input i)) h.rest runs channel side
+        (stands_on h.has.branch runs.known channel side h.on.stands_in) (st.plain.outside r.branch h.has.branch runs.known) nothing i
+        refl h.on.is_channel
 
     -- Inside a transfer the branch waits for an answer, and nothing is in the inbox; the other steps go on.
     pub inside_cannot : (transfer : Transfer) → r.transfer ≡ Some transfer → (items : List Item) (j : ℕ) → InTransfer g r transfer items j view → CannotAct g r x.state

@@ -84,7 +84,9 @@ bound_more most steps left actions more is le =
 
 -- A runner at rest stands so.
 pub resting : (g : Setting) (s : Runner) (may : Bool) (a : CoreState) (y : World) (life : Life) (more : ℕ → ℕ) (next : Branch) (j left : ℕ) → may ≡ true → next.core ≡ s.core → next.family ≡ s.family → s.footprint ≡ footprint_of next.items →
-    ParentsWait g y s.core s.family s.parents s.branch → next.sides ≡ s.sides → next.inside ≡ s.inside → s.transfer ≡ None → next.mode ≡ runs → Rest g s next.items j (record { core = a; world = y; hand = None }) → j + cost g s ≤ left → life.steps + left ≤ kernel_bound g.program * (more s.family + 1) →
+    ParentsWait g y s.core s.family s.parents s.branch → next.sides ≡ s.sides → next.inside ≡ s.inside → s.transfer ≡ None →
+    next.mode ≡ runs → Rest g s next.items j (record { core = a; world = y; hand = None }) → j + cost g s ≤ left →
+    life.steps + left ≤ kernel_bound g.program * (more s.family + 1) →
     Stand g s may None a y life more next
 resting g s may a y life more next j left may_be core family footprint parents sides inside none mode rest few bound = record {
   core = core;

@@ -225,7 +225,8 @@ module _ (g : Setting) (first : Roles) (is : IsImageOf g first) (w : Watched) wh
     stand_of : (who : Roles) (x : Told (of_kernel g.program)) → Standing g may_rest who w x → (r : Runner) (hand : Option Hand) → who c t ≡ used_by r hand → (branch : Branch) → slice_get x.state.branches r.branch ≡ Some branch →
         Stand g r (may_rest c t) hand a x.state (w.lives c t) x.actions branch
     stand_of who x st r hand runs_r branch known =
-        subst (λ o. SomeIs o (Stand g r (may_rest c t) hand a x.state (w.lives c t) x.actions)) known (stands_at (moment_of g first is who w x st) c t a r hand at_c runs_r)
+        subst (λ o. SomeIs o (Stand g r (may_rest c t) hand a x.state (w.lives c t) x.actions)) known
+        (stands_at (moment_of g first is who w x st) c t a r hand at_c runs_r)
 
     -- by how much it may do without an instruction
     settle_at : (n : ℕ) (who : Roles) (x : Told (of_kernel g.program)) → Standing g may_rest who w x → (r : Runner) → who c t ≡ used_by r None → (branch : Branch) → slice_get x.state.branches r.branch ≡ Some branch →
@@ -233,19 +234,21 @@ module _ (g : Setting) (first : Roles) (is : IsImageOf g first) (w : Watched) wh
     settle_at zero who x st r runs_r branch known lt = absurd (let z : ⊥ = omega (arith, lt) in z)
     settle_at (suc n) who x st r runs_r branch known lt =
         let stand = stand_of who x st r None runs_r branch known in
+        let here = branch_of (thread_of (moment_of g first is who w x st) c t a at_c r None runs_r) branch known stand in
         ⊎_elim
         (λ (by : (b : Bool) → StandsBy g r b branch.items branch.mode stand.left (record { core = a; world = x.state; hand = None })). calm_settles who x st r None runs_r branch known stand by)
         (λ at_rest.
         let rest = at_rest.3 in
         ⊎_elim
-        (λ (own : IsOwn r.parents branch.items). goes_its_way (branch_of (thread_of (moment_of g first is who w x st) c t a at_c r None runs_r) branch known stand) at_rest.1 at_rest.2 rest.0 rest.1 branch.items refl rest.3 own may_rest' rests)
+        (λ (own : IsOwn r.parents branch.items). goes_its_way here at_rest.1 at_rest.2 rest.0 rest.1 branch.items refl rest.3 own
+        may_rest' rests)
         (λ (none : HasNone r.parents branch.items).
-        let q = settles_one (branch_of (thread_of (moment_of g first is who w x st) c t a at_c r None runs_r) branch known stand) at_rest.1 at_rest.2 rest.0 rest.1 branch.items refl rest.3 at_rest.0 branch.items refl none in
-        let here : Settles g may_rest who w x w = record {
+        let q = settles_one here at_rest.1 at_rest.2 rest.0 rest.1 branch.items refl rest.3 at_rest.0 branch.items refl none in
+        let settled : Settles g may_rest who w x w = record {
           follows = record { who = q.who; piece = q.piece; world = q.world; acted = q.acted; standing = q.standing; named = q.named };
           none_inside = q.none_inside;
         } in
-        settles_after may_rest may_rest' who x here
+        settles_after may_rest may_rest' who x settled
         (settle_at n q.who (told_by g.program g.stimulus x q.piece q.world) q.standing q.runner q.runs_there q.next q.known (let lighter = q.lighter in omega (arith, lt, lighter))))
         (own_or_none r.parents branch.items))
         (by_cases g r (may_rest c t) branch.items branch.mode stand.left (record { core = a; world = x.state; hand = None }) stand.by)
@@ -253,7 +256,8 @@ module _ (g : Setting) (first : Roles) (is : IsImageOf g first) (w : Watched) wh
     -- whatever its role is
     pub thread_settles : (who : Roles) (x : Told (of_kernel g.program)) → Standing g may_rest who w x → (role : Role) → who c t ≡ role → Settles g may_rest' who w x w
     thread_settles who x st (used_by r hand) e =
-        let there = some_is (Stand g r (may_rest c t) hand a x.state (w.lives c t) x.actions) (slice_get x.state.branches r.branch) (stands_at (moment_of g first is who w x st) c t a r hand at_c e) in
+        let there = some_is (Stand g r (may_rest c t) hand a x.state (w.lives c t) x.actions) (slice_get x.state.branches r.branch)
+        (stands_at (moment_of g first is who w x st) c t a r hand at_c e) in
         let branch = there.0 in
         let stand = there.2 in
         ⊎_elim

@@ -271,12 +271,14 @@ module _ {may_rest : (core thread : ℕ) → Bool} {moment : Moment may_rest} (t
       let works = works_at moment i u q other was in
       record {
         branch = works.branch;
-        known = own_still moment c t a at_c r None runs_r (λ k. nat_eq k t) a y settled_effect i u q other other_one.0 was q.branch works.branch (inl refl) works.known ∙ works.known;
+        known = own_still moment thread_at (λ k. nat_eq k t) a y settled_effect i u q other other_one.0 was q.branch works.branch
+            (inl refl) works.known ∙ works.known;
         goes = works.goes;
         core = works.core;
         family = works.family;
         footprint = works.footprint;
-        parents = parents_still g q x.state y q.core q.family q.parents q.branch (parents_left moment c t a at_c r None runs_r (λ k. nat_eq k t) a y settled_effect i u q other other_one.0 was) works.parents;
+        parents = parents_still g q x.state y q.core q.family q.parents q.branch
+            (parents_left moment thread_at (λ k. nat_eq k t) a y settled_effect i u q other other_one.0 was) works.parents;
         in_hand = works.in_hand;
         sides = works.sides;
         inside = works.inside;

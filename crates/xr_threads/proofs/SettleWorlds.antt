@@ -172,7 +172,8 @@ module _ (g : Setting) (r : Runner) (x : World) (branch : Branch) (known : slice
         stack = refl;
         outermost_is = refl;
         syncs = refl;
-        there = λ p n sync h. ⊎_elim (λ (e : p ≡ waiting_one r.branch (length x.branches) rest r.sides r.inside). absurd (none_sync p n sync e)) (λ (m : IsParent r.parents p). m) h;
+        there = λ p n sync h. ⊎_elim (λ (e : p ≡ waiting_one r.branch (length x.branches) rest r.sides r.inside). absurd
+            (none_sync p n sync e)) (λ (m : IsParent r.parents p). m) h;
         still = λ p n sync h. inr h;
       };
       held = refl;

@@ -79,14 +79,14 @@ module _ {may_rest : (core thread : ℕ) → Bool} {moment : Moment may_rest} {h
       let ne : (c ≡ c) × (u ≡ t) → ⊥ = λ h. not_own u m h.1 in
       record {
         branch = works.branch;
-        known = own_still moment c t a at_c r hand runs_r moved b y effect c u s other ne runs_s s.branch works.branch (inl refl)
+        known = own_still moment thread_at moved b y effect c u s other ne runs_s s.branch works.branch (inl refl)
             works.known ∙ works.known;
         goes = works.goes;
         core = works.core;
         family = works.family;
         footprint = works.footprint;
         parents = parents_still g s x.state y s.core s.family s.parents s.branch
-            (parents_left moment c t a at_c r hand runs_r moved b y effect c u s other ne runs_s) works.parents;
+            (parents_left moment thread_at moved b y effect c u s other ne runs_s) works.parents;
         in_hand = works.in_hand;
         sides = works.sides;
         inside = works.inside;
@@ -149,15 +149,15 @@ module _ {may_rest : (core thread : ℕ) → Bool} {moment : Moment may_rest} {h
           far_steps = answer.far_steps;
           stand = answer.stand;
           kept = λ u s other m runs_s.
-              kept_others moment c t a at_c r hand runs_r moved b y effect u s other (not_own u m) m runs_s
+              kept_others moment thread_at moved b y effect u s other (not_own u m) m runs_s
               (spare_for g who' y c b (crew_behind lt) u s other (answer.same_role u m ∙ runs_s));
-          far_kept = λ d u e s other ne at_d runs_s. far_others moment c t a at_c r hand runs_r moved b y effect d u e s other
+          far_kept = λ d u e s other ne at_d runs_s. far_others moment thread_at moved b y effect d u e s other
               ne at_d runs_s;
           links = answer.links;
           wired = answer.wired;
           alone = answer.alone;
           loose = answer.loose;
-          far_loose = λ d e ne at_d loose. far_loose_still moment c t a at_c r hand runs_r moved b y effect who' answer.far_role
+          far_loose = λ d e ne at_d loose. far_loose_still moment thread_at moved b y effect who' answer.far_role
               d e ne loose;
           roots = answer.roots;
           far_roots = answer.far_roots;

@@ -52,7 +52,8 @@ module _ (g : Setting) (r : Runner) (rest : List Item) (exits : List Exit) (pc p
   module _ (i : kernel.Input) (item_fits : Fits g r (kernel.input i)) (rest_fits : ItemsFit g r rest) (c : ℕ) (to_channel : i.resource ≡ Chan c) (side : Side) (stands_in : slice_index_or r.sides c None ≡ Some side) (writes : WritesTo (plan g r).vars i.target (pc + length transfer) write) where
     -- at the first step of the protocol
     takes_there : (z y q : ThreadView) (regs : Regs) → HasBases g r regs → Rely g r y q → q.hand ≡ None → Has g r (does (kernel.input i) ∷ rest) q →
-        AtProtocol (home g r) (relied g r) r.stack r.thread (end_place g r c side) (running r.tie pc regs) z.core.words i.pos (input_acts R0 true) (EndsAt (pc + length transfer)) y.core → Communicates g r (takes_in i) j q
+        AtProtocol (home g r) (relied g r) r.stack r.thread (end_place g r c side) (running r.tie pc regs) z.core.words i.pos
+        (input_acts R0 true) (EndsAt (pc + length transfer)) y.core → Communicates g r (takes_in i) j q
     takes_there z y q regs bases kept no_hand has at = record {
       rest = rest;
       on = record { channel = c; is_channel = to_channel; side = side; stands_in = stands_in };
@@ -97,7 +98,8 @@ take_leads g r i c to_channel used rest exits pc pc' j z regs laid piece fits (s
     (leads_as g r (λ y. outcome y.core × Since g r (IsApart r.stack) any_part z y) (Turns g r j) 3 z
     (λ y h q k.
     let since = since_kept g r (IsApart r.stack) any_part h.1 k in
-    turn.communicates (takes_in i) (takes_there g r rest exits pc pc' j parts.transfer parts.write end (stand_back (code g r) pc parts.transfer parts.write stand) behind i fits rest_fits c to_channel side stands_in parts.writes
+    turn.communicates (takes_in i) (takes_there g r rest exits pc pc' j parts.transfer parts.write end
+    (stand_back (code g r) pc parts.transfer parts.write stand) behind i fits rest_fits c to_channel side stands_in parts.writes
     z y q regs bases k (since.hand ∙ no_hand) (has_since g r laid (does (kernel.input i) ∷ rest) z q since (since.room has.holds.room) has) h.0))
     (arrives g r (IsApart r.stack) (apart_of_changes g r) outcome 3 z (at_runs g r z pc regs here) way))
 

@@ -64,13 +64,18 @@ module _ {moment : Moment none_rests} {thread_at : ThreadAt moment None} (branch
 
     -- its life is one step longer
     bound_behind : (j further : ℕ) → j ≤ stand.left → further ≤ j + 1 + cost g r →
-        (e_watched.lives c t).steps + further ≤ kernel_bound g.program * ((told_by g.program g.stimulus x e.piece e.world).actions r.family + 1)
+        (e_watched.lives c t).steps + further ≤ kernel_bound g.program *
+        ((told_by g.program g.stimulus x e.piece e.world).actions r.family + 1)
     bound_behind j further few enough =
-        let one : 1 ≤ steps_of g.program g.stimulus branch.family (Some x.state) e.piece = subst (λ (b : Branch). 1 ≤ steps_of g.program g.stimulus b.family (Some x.state) e.piece) same_branch e.paid in
-        let one' : 1 ≤ steps_of g.program g.stimulus r.family (Some x.state) e.piece = subst (λ f. 1 ≤ steps_of g.program g.stimulus f (Some x.state) e.piece) stand.family one in
+        let one : 1 ≤ steps_of g.program g.stimulus branch.family (Some x.state) e.piece = subst
+        (λ (b : Branch). 1 ≤ steps_of g.program g.stimulus b.family (Some x.state) e.piece) same_branch e.paid in
+        let one' : 1 ≤ steps_of g.program g.stimulus r.family (Some x.state) e.piece = subst
+        (λ f. 1 ≤ steps_of g.program g.stimulus f (Some x.state) e.piece) stand.family one in
         let life : (e_watched.lives c t).steps ≡ (w.lives c t).steps + 1 = ap (λ (l : Life). l.steps) (own_life w e_watched.machine c t) in
-        let all = bound_grows (kernel_bound g.program) (greatest_count g.program) (w.lives c t).steps stand.left j further (x.actions r.family) (steps_of g.program g.stimulus r.family (Some x.state) e.piece) refl stand.bound few enough one' in
-        subst (λ k. k + further ≤ kernel_bound g.program * ((told_by g.program g.stimulus x e.piece e.world).actions r.family + 1)) (sym life) all
+        let all = bound_grows (kernel_bound g.program) (greatest_count g.program) (w.lives c t).steps stand.left j further
+        (x.actions r.family) (steps_of g.program g.stimulus r.family (Some x.state) e.piece) refl stand.bound few enough one' in
+        subst (λ k. k + further ≤ kernel_bound g.program * ((told_by g.program g.stimulus x e.piece e.world).actions r.family + 1))
+        (sym life) all
 
     -- those that wait for the branch do so still
     pub parents_behind : ParentsWait g e.world r.core r.family r.parents r.branch

@@ -127,7 +127,8 @@ module _ (g : Setting) (who : Roles) (m : Machine) (x : World) (h : AreWired g w
       its : IsTransferring who core thread transfer.channel transfer.side
       its = record { runner = r; hand = hand; runs = runs; transfer = transfer; is = is; channel_is = refl; side_is = refl }
 
-      by : Stance g who transfer.channel transfer.side (h.ghosts.spots at transfer.side) (h.ghosts.late at (other_side transfer.side)) → h.ghosts.spots at transfer.side ≡ spot transfer.phase false
+      by : Stance g who transfer.channel transfer.side (h.ghosts.spots at transfer.side) (h.ghosts.late at (other_side transfer.side)) →
+          h.ghosts.spots at transfer.side ≡ spot transfer.phase false
       by (in_piece d u i on_core e late) =
           let one = h.one core thread d u transfer.channel transfer.side its i in
           let runner : r ≡ i.runner = same_runner r i.runner hand i.hand (sym runs ∙ sym (ap (λ k. who k u) one.0 ∙ ap (who core) one.1) ∙ i.runs) in
