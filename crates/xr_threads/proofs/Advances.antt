@@ -129,7 +129,8 @@ module _ {moment : Moment none_rests} (thread_at : ThreadAt moment None)
   loose : 1 ≤ threads_on g.program c → AreLoose g who_next c left x.state
   loose some =
       loose_still g who who_next c a left x.state x.state r (st.roles.core c t r None runs_r) (laid_at moment c t r None runs_r)
-      (st.loose c a at_c some) (record { words = (e.touched x.state).words; resources = (e.touched x.state).resources; store = λ v f. refl })
+      (st.loose c a at_c some) (record
+      { words = (e.touched x.state).words; resources = (e.touched x.state).resources; store = λ v f. refl })
       (λ v nobody. (nobody t s None (role_here who c t (used_by s None)), λ u i other at. let k = alike_still c u i other at in ap (λ f. f.changes v) (sym k.2.footprint) ∙ nobody u k.0 other k.1))
       (λ v want.
       let k = alike_cases c want.thread want.runner want.hand want.runs in

@@ -46,7 +46,8 @@ module _ (g : Setting) (r : Runner) (c : ℕ) (a : CoreState) (x : World) where
     core = refl;
     touched = h.touched;
     syncs = h.syncs;
-    tie = λ thread there. inl (ap (λ (k : Thread). k.tie) (same_Some thread (running_so (is_watching h.items) r.tie h.rest.pc h.rest.regs) (sym there ∙ h.rest.here)));
+    tie = λ thread there. inl (ap (λ (k : Thread). k.tie)
+        (same_Some thread (running_so (is_watching h.items) r.tie h.rest.pc h.rest.regs) (sym there ∙ h.rest.here)));
     roots = ap (λ k. k + counts c h.acts.branch) h.roots;
     holds = h.rest.has.holds;
     ports = h.rest.has.ports;
@@ -55,11 +56,14 @@ module _ (g : Setting) (r : Runner) (c : ℕ) (a : CoreState) (x : World) where
   -- memory and ports that are as they were
   pub store_as : (z y : ThreadView) → y.core.words ≡ z.core.words → y.world.store ≡ z.world.store → HoldsStore g r z → HoldsStore g r y
   store_as z y words store h = record {
-    holds = subst (λ l. Holds (places g r.core) r.footprint.uses 0 l y.world.store) (sym words) (subst (Holds (places g r.core) r.footprint.uses 0 z.core.words) (sym store) h.holds);
+    holds = subst (λ l. Holds (places g r.core) r.footprint.uses 0 l y.world.store) (sym words)
+        (subst (Holds (places g r.core) r.footprint.uses 0 z.core.words) (sym store) h.holds);
     room = subst (λ l. r.stack + temporary ≤ length l) (sym words) h.room;
   }
 
-  pub ports_as : (z y : ThreadView) → ((p : ℕ) (listed : PortUse) → IsPort g r p listed → slice_get y.core.ports (port_place g r p) ≡ slice_get z.core.ports (port_place g r p)) → PortsStand g r z → PortsStand g r y
+  pub ports_as : (z y : ThreadView) →
+      ((p : ℕ) (listed : PortUse) → IsPort g r p listed →
+      slice_get y.core.ports (port_place g r p) ≡ slice_get z.core.ports (port_place g r p)) → PortsStand g r z → PortsStand g r y
   ports_as z y same h p listed is = let k = h p listed is in record { port = k.port; there = same p listed is ∙ k.there; declared = k.declared }
 
   -- what a trap leaves

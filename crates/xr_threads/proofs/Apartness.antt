@@ -48,7 +48,8 @@ both_sides first h = h
 both_sides second h = h
 
 -- where the end of a side stands
-place_is : (K : kernel.Kernel) (c : ℕ) (side : Side) (core : ℕ) → core_of K c side ≡ core → place (pair_of K c) side ≡ record { core = core; end = end_number K core c side }
+place_is : (K : kernel.Kernel) (c : ℕ) (side : Side) (core : ℕ) → core_of K c side ≡ core →
+    place (pair_of K c) side ≡ record { core = core; end = end_number K core c side }
 place_is K c first core here = ap (λ d. record { core = d; end = end_number K d c first }) here
 place_is K c second core here = ap (λ d. record { core = d; end = end_number K d c second }) here
 
@@ -60,16 +61,19 @@ pub role_inside : (g : Setting) (who : Roles) → AreRoles g who → (c t : ℕ)
 role_inside g who roles c t r hand e = roles.inside c t (not_unused (who c t) r hand e)
 
 -- each runner is laid out, and its temporary words are there
-pub laid_of_role : (g : Setting) (start who : Roles) → IsImageOf g start → AreRoles g who → (c t : ℕ) (r : Runner) (hand : Option Hand) → who c t ≡ used_by r hand →
+pub laid_of_role : (g : Setting) (start who : Roles) → IsImageOf g start → AreRoles g who → (c t : ℕ) (r : Runner) (hand : Option Hand) →
+    who c t ≡ used_by r hand →
     (x : World) → Works g x r hand → IsLaidOut g r
 laid_of_role g start who image roles c t r hand e x works =
     let inside = role_inside g who roles c t r hand e in
     let core = image.cores c (roles.there c t r hand e) (omega (arith, inside)) in
-    core.laid r (roles.core c t r hand e) (subst (λ n. n < threads_on g.program c) (sym (roles.thread c t r hand e)) inside) (roles.block c t r hand e)
+    core.laid r (roles.core c t r hand e) (subst (λ n. n < threads_on g.program c) (sym (roles.thread c t r hand e)) inside)
+    (roles.block c t r hand e)
     (roles.stack c t r hand e ∙ ap (temporary_of g.program c) (sym (roles.thread c t r hand e)))
     (λ v. subst (λ (f : Footprint). f.changes v ≡ true → f.uses v ≡ true) (sym works.footprint) (changed_used_items works.branch.items v))
 
-pub room_of_role : (g : Setting) (start who : Roles) → IsImageOf g start → AreRoles g who → (c t : ℕ) (r : Runner) (hand : Option Hand) → who c t ≡ used_by r hand →
+pub room_of_role : (g : Setting) (start who : Roles) → IsImageOf g start → AreRoles g who → (c t : ℕ) (r : Runner) (hand : Option Hand) →
+    who c t ≡ used_by r hand →
     r.stack + temporary ≤ (parts_in g.image.cores c).words
 room_of_role g start who image roles c t r hand e =
     let inside = role_inside g who roles c t r hand e in
@@ -117,17 +121,20 @@ module _ (g : Setting) (who : Roles) (x : World) (lawful : Lawful g.program x) (
         (subst (λ (k : Footprint). k.timers n ≡ true) works'.footprint has))
 
     -- nor a side of a channel
-    pub own_sides : (n : ℕ) (side : Side) → n < length g.program.channels → r.footprint.channels n ≡ true → s.footprint.channels n ≡ true → slice_index_or r.sides n None ≡ Some side → slice_index_or s.sides n None ≡ Some side → ⊥
+    pub own_sides : (n : ℕ) (side : Side) → n < length g.program.channels → r.footprint.channels n ≡ true →
+        s.footprint.channels n ≡ true → slice_index_or r.sides n None ≡ Some side → slice_index_or s.sides n None ≡ Some side → ⊥
     own_sides n side lt mine has here there =
         both_sides side
         (subst (λ o. Differ (Some side) o) (ap (λ l. slice_index_or l n None) works'.sides ∙ there)
         (subst (λ o. Differ o (side_of works'.branch n)) (ap (λ l. slice_index_or l n None) works.sides ∙ here)
-        (one_on_each_side g.program x lawful r.branch s.branch works.branch works'.branch works.known works'.known other_branch works.goes works'.goes n lt
+        (one_on_each_side g.program x lawful r.branch s.branch works.branch works'.branch works.known works'.known other_branch works.goes
+        works'.goes n lt
         (subst (λ (k : Footprint). k.channels n ≡ true) works.footprint mine)
         (subst (λ (k : Footprint). k.channels n ≡ true) works'.footprint has))))
 
   -- Two of one core.
-  module _ (lines : AreLines g) (c t t' : ℕ) (r s : Runner) (hand other : Option Hand) (e : who c t ≡ used_by r hand) (f : who c t' ≡ used_by s other)
+  module _ (lines : AreLines g) (c t t' : ℕ) (r s : Runner) (hand other : Option Hand) (e : who c t ≡ used_by r hand)
+      (f : who c t' ≡ used_by s other)
       (differ : t' ≢ t) (works : Works g x r hand) (works' : Works g x s other) (laid : IsLaidOut g r) (laid' : IsLaidOut g s) where
     cores : r.core ≡ s.core
     cores = roles.core c t r hand e ∙ sym (roles.core c t' s other f)
@@ -136,7 +143,8 @@ module _ (g : Setting) (who : Roles) (x : World) (lawful : Lawful g.program x) (
     near_here v n found near = subst (λ k. IsNear (places g k) v n found) cores near
 
     -- a word of a variable is no temporary one of either
-    not_temporary : (q : Runner) → IsLaidOut g q → (v n i k w : ℕ) (found : VarPlan) → IsNear (places g q.core) v n found → i < found.words → k < temporary → w ≡ 0 + n + i → w ≡ q.stack + k → ⊥
+    not_temporary : (q : Runner) → IsLaidOut g q → (v n i k w : ℕ) (found : VarPlan) → IsNear (places g q.core) v n found →
+        i < found.words → k < temporary → w ≡ 0 + n + i → w ≡ q.stack + k → ⊥
     not_temporary q is v n i k w found near lt lk is_at is_in =
         ⊎_elim
         (λ h. let z : ⊥ = omega (arith, h, lk, is_at, is_in) in z)
@@ -162,12 +170,14 @@ module _ (g : Setting) (who : Roles) (x : World) (lawful : Lawful g.program x) (
     of_variable_words : (w : ℕ) → IsWord 0 (places g s.core) s.footprint.uses w → MayChange g r w → ⊥
     of_variable_words w h (of_variable v n k found near changes lt is) =
         let p = h.is in
-        let same : h.variable ≡ v = laid'.frame.disjoint h.variable h.first h.place v n k h.found found h.near (near_here v n found near) h.within lt (omega (arith, p, is)) in
+        let same : h.variable ≡ v = laid'.frame.disjoint h.variable h.first h.place v n k h.found found h.near (near_here v n found near)
+        h.within lt (omega (arith, p, is)) in
         let unchanged = own_variables c t c t' r s hand other e f (λ q. differ q.1) works works' h.variable h.meant in
         true≢false (sym changes ∙ ap r.footprint.changes (sym same) ∙ unchanged)
     of_variable_words w h (of_stack k lt is) =
         let p = h.is in
-        not_temporary r laid h.variable h.first h.place k w h.found (subst (λ m. IsNear (places g m) h.variable h.first h.found) (sym cores) h.near) h.within lt (omega (arith, p)) is
+        not_temporary r laid h.variable h.first h.place k w h.found
+        (subst (λ m. IsNear (places g m) h.variable h.first h.found) (sym cores) h.near) h.within lt (omega (arith, p)) is
 
     words_apart : (w : ℕ) → relied g s w ≡ true → MayChange g r w → ⊥
     words_apart w h may =
@@ -179,14 +189,16 @@ module _ (g : Setting) (who : Roles) (x : World) (lawful : Lawful g.program x) (
     ports_apart : (p q : ℕ) (listed listed' : PortUse) → IsPort g r p listed → IsPort g s q listed' → port_place g s q ≢ port_place g r p
     ports_apart p q listed listed' is is' same =
         let here : port_place g r q ≡ port_place g r p = ap (λ k. port_number k g.program.ports q) cores ∙ same in
-        let one = numbers_differ core_of_port g.program.ports r.core q p listed' listed is'.known is.known (is'.core ∙ sym cores) is.core here in
+        let one = numbers_differ core_of_port g.program.ports r.core q p listed' listed is'.known is.known (is'.core ∙ sym cores)
+        is.core here in
         let unused_here = own_ports c t c t' r s hand other e f (λ k. differ k.1) works works' q is'.mine in
         true≢false (sym is.mine ∙ ap r.footprint.ports (sym one) ∙ unused_here)
 
     timers_apart : (p q : ℕ) (listed listed' : Timer) → IsTimer g r p listed → IsTimer g s q listed' → timer_place g s q ≢ timer_place g r p
     timers_apart p q listed listed' is is' same =
         let here : timer_place g r q ≡ timer_place g r p = ap (λ k. timer_number k g.program.timers q) cores ∙ same in
-        let one = numbers_differ core_of_timer g.program.timers r.core q p listed' listed is'.known is.known (is'.core ∙ sym cores) is.core here in
+        let one = numbers_differ core_of_timer g.program.timers r.core q p listed' listed is'.known is.known (is'.core ∙ sym cores)
+        is.core here in
         let unused_here = own_timers c t c t' r s hand other e f (λ k. differ k.1) works works' q is'.mine in
         true≢false (sym is.mine ∙ ap r.footprint.timers (sym one) ∙ unused_here)
 
@@ -199,7 +211,8 @@ module _ (g : Setting) (who : Roles) (x : World) (lawful : Lawful g.program x) (
         ∙ ap (λ n. record { core = r.core; end = n }) same
         ∙ ap (λ k. record { core = k; end = end_place g s q side' }) cores
         ∙ sym (place_is g.program q side' s.core is'.here) in
-        let one = lines.wired.once line.0 (pair_of g.program p) side line'.0 (pair_of g.program q) side' (lines.line line.0 p line.1) (lines.line line'.0 q line'.1) there in
+        let one = lines.wired.once line.0 (pair_of g.program p) side line'.0 (pair_of g.program q) side' (lines.line line.0 p line.1)
+        (lines.line line'.0 q line'.1) there in
         let channel : p ≡ q = same_Some p q (sym line.1 ∙ ap (slice_get (two_sided g.program)) one.0 ∙ line'.1) in
         own_sides c t c t' r s hand other e f (λ k. differ k.1) works works' p side is.channel.known is.mine
         (ap s.footprint.channels channel ∙ is'.mine) is.stands_in

@@ -44,7 +44,8 @@ module _ (g : Setting) (r : Runner) where
   -- the runner relies on its temporary words
   pub stack_relied : (k : ℕ) → k < temporary → relied g r (r.stack + k) ≡ true
   stack_relied k lt =
-      or_left (is_among_words r.stack temporary (r.stack + k)) (is_word_among 0 (places g r.core) r.footprint.uses (length (places g r.core)) (r.stack + k)) (among_words r.stack temporary k lt)
+      or_left (is_among_words r.stack temporary (r.stack + k))
+      (is_word_among 0 (places g r.core) r.footprint.uses (length (places g r.core)) (r.stack + k)) (among_words r.stack temporary k lt)
 
   -- one of the runner's ports is a resource of its
   pub own_port : (p : ℕ) (listed : PortUse) → IsPort g r p listed → IsMine g r (ResPort (port_place g r p))
@@ -77,11 +78,14 @@ module _ (g : Setting) (r : Runner) where
   }
 
   -- its ports are what they were
-  pub ports_kept : {z y : ThreadView} → Rely g r z y → (p : ℕ) (listed : PortUse) → IsPort g r p listed → slice_get y.core.ports (port_place g r p) ≡ slice_get z.core.ports (port_place g r p)
-  ports_kept {z = z} {y = y} k p listed is = port_same z.core y.core (port_place g r p) (k.resources.parts (ResPort (port_place g r p)) (own_port p listed is))
+  pub ports_kept : {z y : ThreadView} → Rely g r z y → (p : ℕ) (listed : PortUse) → IsPort g r p listed →
+      slice_get y.core.ports (port_place g r p) ≡ slice_get z.core.ports (port_place g r p)
+  ports_kept {z = z} {y = y} k p listed is = port_same z.core y.core (port_place g r p)
+      (k.resources.parts (ResPort (port_place g r p)) (own_port p listed is))
 
   -- and lasts
-  pub since_kept : (leaves : ℕ → Type 0) (stays : Res → Type 0) {z y x : ThreadView} → Since leaves stays z y → Rely g r y x → Since leaves stays z x
+  pub since_kept : (leaves : ℕ → Type 0) (stays : Res → Type 0) {z y x : ThreadView} → Since leaves stays z y → Rely g r y x →
+      Since leaves stays z x
   since_kept leaves stays {y = y} {x = x} h k = record {
     words = λ w m l. k.words w m ∙ h.words w m l;
     parts = λ res m s. k.resources.parts res m ∙ h.parts res m s;
@@ -132,19 +136,25 @@ module _ (g : Setting) (r : Runner) where
   core_kept k = record { thread = k.thread; words = k.words }
 
   -- and the same beside some of the runner's resources
-  pub parts_kept : (mine : Res → Type 0) → ((res : Res) → mine res → IsMine g r res) → {z y : ThreadView} → Rely g r z y → KeptParts (relied g r) mine r.thread z.core y.core
-  parts_kept mine own {z = z} {y = y} k = record { own = core_kept k; resources = own_fewer (IsMine g r) r.thread z.core y.core mine own k.resources }
+  pub parts_kept : (mine : Res → Type 0) → ((res : Res) → mine res → IsMine g r res) → {z y : ThreadView} → Rely g r z y →
+      KeptParts (relied g r) mine r.thread z.core y.core
+  parts_kept mine own {z = z} {y = y} k =
+      record { own = core_kept k; resources = own_fewer (IsMine g r) r.thread z.core y.core mine own k.resources }
 
   -- or one of its ports
   pub alone_mine : (p : ℕ) (listed : PortUse) → IsPort g r p listed → (res : Res) → port_alone (port_place g r p) res → IsMine g r res
   alone_mine p listed is res e = subst (IsMine g r) (sym e) (own_port p listed is)
 
-  pub port_kept : (p : ℕ) (listed : PortUse) → IsPort g r p listed → {z y : ThreadView} → Rely g r z y → KeptParts (relied g r) (port_alone (port_place g r p)) r.thread z.core y.core
+  pub port_kept : (p : ℕ) (listed : PortUse) → IsPort g r p listed → {z y : ThreadView} → Rely g r z y →
+      KeptParts (relied g r) (port_alone (port_place g r p)) r.thread z.core y.core
   port_kept p listed is k = parts_kept (port_alone (port_place g r p)) (alone_mine p listed is) k
 
   -- of the runner's ports those stay whose parts do
-  pub ports_since : (leaves : ℕ → Type 0) (stays : Res → Type 0) (z y : ThreadView) → Since leaves stays z y → (p : ℕ) (listed : PortUse) → IsPort g r p listed → stays (ResPort (port_place g r p)) → slice_get y.core.ports (port_place g r p) ≡ slice_get z.core.ports (port_place g r p)
-  ports_since leaves stays z y h p listed is s = port_same z.core y.core (port_place g r p) (h.parts (ResPort (port_place g r p)) (own_port p listed is) s)
+  pub ports_since : (leaves : ℕ → Type 0) (stays : Res → Type 0) (z y : ThreadView) → Since leaves stays z y →
+      (p : ℕ) (listed : PortUse) → IsPort g r p listed → stays (ResPort (port_place g r p)) →
+      slice_get y.core.ports (port_place g r p) ≡ slice_get z.core.ports (port_place g r p)
+  ports_since leaves stays z y h p listed is s = port_same z.core y.core (port_place g r p)
+      (h.parts (ResPort (port_place g r p)) (own_port p listed is) s)
 
   -- a word that is none of those that the runner may change is none of its temporary ones
   pub apart_of_changes : (w : ℕ) → (MayChange g r w → ⊥) → IsApart r.stack w
@@ -161,7 +171,8 @@ module _ (g : Setting) (r : Runner) where
   -- The steps leave at least the words that the runner may not change.
   module _ (leaves : ℕ → Type 0) (safe : (w : ℕ) → (MayChange g r w → ⊥) → leaves w) where
     -- an own step is a silent one
-    own_silent : (y : ThreadView) (b : CoreState) → StillRuns g r y.core → OwnStep (home g r) leaves r.thread y.core b → IsSilentStep g r y (after g r y b)
+    own_silent : (y : ThreadView) (b : CoreState) → StillRuns g r y.core → OwnStep (home g r) leaves r.thread y.core b →
+        IsSilentStep g r y (after g r y b)
     own_silent y b on step =
         let th' : Thread = record step.thread { pc = step.after.pc; regs = step.after.regs } in
         let others : (u : ℕ) → u ≢ r.thread → slice_get b.threads u ≡ slice_get y.core.threads u = λ u ne. ap (λ (c : CoreState). slice_get c.threads u) step.left ∙ get_set_other y.core.threads r.thread u th' ne in
@@ -176,7 +187,8 @@ module _ (g : Setting) (r : Runner) where
             as_many = ap (λ (c : CoreState). length c.threads) step.left ∙ length-set y.core.threads r.thread th';
             words = λ w not_mine. ap (λ (c : CoreState). slice_get c.words w) step.left ∙ step.words w (safe w not_mine);
             sizes = same_sizes (home g r) y.core r.thread b step.made;
-            resources = others_same (IsMine g r) r.thread y.core b (ap (λ (c : CoreState). c.ports) step.left) (ap (λ (c : CoreState). c.timers) step.left) (ap (λ (c : CoreState). c.events) step.left);
+            resources = others_same (IsMine g r) r.thread y.core b (ap (λ (c : CoreState). c.ports) step.left)
+                (ap (λ (c : CoreState). c.timers) step.left) (ap (λ (c : CoreState). c.events) step.left);
           };
           hand = keeps refl (ap (λ (c : CoreState). c.syncs) step.left) (same_use y (after g r y b) others);
           was = on;
@@ -184,11 +196,13 @@ module _ (g : Setting) (r : Runner) where
         }
 
     -- what stayed before it stays behind it
-    own_since : (stays : Res → Type 0) (z y : ThreadView) (b : CoreState) → Since leaves stays z y → OwnStep (home g r) leaves r.thread y.core b → Since leaves stays z (after g r y b)
+    own_since : (stays : Res → Type 0) (z y : ThreadView) (b : CoreState) → Since leaves stays z y →
+        OwnStep (home g r) leaves r.thread y.core b → Since leaves stays z (after g r y b)
     own_since stays z y b h step = record {
       words = λ w m l. ap (λ (c : CoreState). slice_get c.words w) step.left ∙ step.words w l ∙ h.words w m l;
       parts = λ res m s.
-          part_same y.core b (ap (λ (c : CoreState). c.ports) step.left) (ap (λ (c : CoreState). c.timers) step.left) (ap (λ (c : CoreState). c.events) step.left) res
+          part_same y.core b (ap (λ (c : CoreState). c.ports) step.left) (ap (λ (c : CoreState). c.timers) step.left)
+          (ap (λ (c : CoreState). c.events) step.left) res
           ∙ h.parts res m s;
       branch = h.branch;
       store = h.store;
@@ -202,7 +216,8 @@ module _ (g : Setting) (r : Runner) where
     }
 
     -- from any view of the way
-    on_the_way : (Q : CoreState → Type 0) (n : ℕ) (z y : ThreadView) → Since leaves any_part z y → Within (home g r) (relied g r) leaves r.thread Q n y.core → LeadsIn g r (λ x. Q x.core × Since leaves any_part z x) n y
+    on_the_way : (Q : CoreState → Type 0) (n : ℕ) (z y : ThreadView) → Since leaves any_part z y →
+        Within (home g r) (relied g r) leaves r.thread Q n y.core → LeadsIn g r (λ x. Q x.core × Since leaves any_part z x) n y
     on_the_way Q zero z y h way = (way, h)
     on_the_way Q (suc n) z y h way =
         ⊎_elim
@@ -214,12 +229,14 @@ module _ (g : Setting) (r : Runner) where
         way
 
     -- where own steps lead, the runner comes, and meanwhile these words stay
-    pub arrives : (Q : CoreState → Type 0) (n : ℕ) (z : ThreadView) → StillRuns g r z.core → Within (home g r) (relied g r) leaves r.thread Q n z.core → LeadsIn g r (λ y. Q y.core × Since leaves any_part z y) n z
+    pub arrives : (Q : CoreState → Type 0) (n : ℕ) (z : ThreadView) → StillRuns g r z.core →
+        Within (home g r) (relied g r) leaves r.thread Q n z.core → LeadsIn g r (λ y. Q y.core × Since leaves any_part z y) n z
     arrives Q n z on way = on_the_way Q n z z (since_now leaves any_part z on) way
 
     module _ (mine : Res → Type 0) (own : (res : Res) → mine res → IsMine g r res) where
       -- a step that may set some of its resources is a silent one
-      parts_silent : (y : ThreadView) (b : CoreState) → StillRuns g r y.core → PartsStep (home g r) leaves mine r.thread y.core b → IsSilentStep g r y (after g r y b)
+      parts_silent : (y : ThreadView) (b : CoreState) → StillRuns g r y.core → PartsStep (home g r) leaves mine r.thread y.core b →
+          IsSilentStep g r y (after g r y b)
       parts_silent y b on step =
           let th' : Thread = record step.thread { pc = step.after.pc; regs = step.after.regs } in
           let others : (u : ℕ) → u ≢ r.thread → slice_get b.threads u ≡ slice_get y.core.threads u = λ u ne. ap (λ (c : CoreState). slice_get c.threads u) step.left ∙ get_set_other y.core.threads r.thread u th' ne in
@@ -242,7 +259,8 @@ module _ (g : Setting) (r : Runner) where
           }
 
       -- what stayed before it stays behind it
-      parts_since : (z y : ThreadView) (b : CoreState) → Since leaves (apart_from mine) z y → PartsStep (home g r) leaves mine r.thread y.core b → Since leaves (apart_from mine) z (after g r y b)
+      parts_since : (z y : ThreadView) (b : CoreState) → Since leaves (apart_from mine) z y →
+          PartsStep (home g r) leaves mine r.thread y.core b → Since leaves (apart_from mine) z (after g r y b)
       parts_since z y b h step = record {
         words = λ w m l. ap (λ (c : CoreState). slice_get c.words w) step.left ∙ step.words w l ∙ h.words w m l;
         parts = λ res m s. step.resources.parts res s ∙ h.parts res m s;
@@ -258,7 +276,9 @@ module _ (g : Setting) (r : Runner) where
       }
 
       -- from any view of the way
-      parts_on_the_way : (Q : CoreState → Type 0) (n : ℕ) (z y : ThreadView) → Since leaves (apart_from mine) z y → WithinParts (home g r) (relied g r) leaves mine r.thread Q n y.core → LeadsIn g r (λ x. Q x.core × Since leaves (apart_from mine) z x) n y
+      parts_on_the_way : (Q : CoreState → Type 0) (n : ℕ) (z y : ThreadView) → Since leaves (apart_from mine) z y →
+          WithinParts (home g r) (relied g r) leaves mine r.thread Q n y.core →
+          LeadsIn g r (λ x. Q x.core × Since leaves (apart_from mine) z x) n y
       parts_on_the_way Q zero z y h way = (way, h)
       parts_on_the_way Q (suc n) z y h way =
           ⊎_elim
@@ -270,5 +290,7 @@ module _ (g : Setting) (r : Runner) where
           way
 
       -- the same of steps that may also set some of the runner's resources
-      pub arrives_with : (Q : CoreState → Type 0) (n : ℕ) (z : ThreadView) → StillRuns g r z.core → WithinParts (home g r) (relied g r) leaves mine r.thread Q n z.core → LeadsIn g r (λ y. Q y.core × Since leaves (apart_from mine) z y) n z
+      pub arrives_with : (Q : CoreState → Type 0) (n : ℕ) (z : ThreadView) → StillRuns g r z.core →
+          WithinParts (home g r) (relied g r) leaves mine r.thread Q n z.core →
+          LeadsIn g r (λ y. Q y.core × Since leaves (apart_from mine) z y) n z
       arrives_with Q n z on way = parts_on_the_way Q n z z (since_now leaves (apart_from mine) z on) way

@@ -128,9 +128,12 @@ module _ (g : Setting) (who : Roles) (is : IsImageOf g who) where
     -- the root's code
     code_there : ItemsFrom g r items [] (entry + 2) 0
     code_there =
-        subst (λ sides. ItemsAt (plan g r) (code g r) sides (EndAt (plan g r) (code g r) r.tie r.parents) items [] (entry + 2) 0) (sym h.is_root.sides)
-        (subst (λ tie. ItemsAt (plan g r) (code g r) (root_sides g.program r.branch) (EndAt (plan g r) (code g r) tie r.parents) items [] (entry + 2) 0) (sym h.is_root.tie)
-        (subst (λ ps. ItemsAt (plan g r) (code g r) (root_sides g.program r.branch) (EndAt (plan g r) (code g r) None ps) items [] (entry + 2) 0) (sym h.is_root.alone)
+        subst (λ sides. ItemsAt (plan g r) (code g r) sides (EndAt (plan g r) (code g r) r.tie r.parents) items [] (entry + 2) 0)
+        (sym h.is_root.sides)
+        (subst (λ tie. ItemsAt (plan g r) (code g r) (root_sides g.program r.branch) (EndAt (plan g r) (code g r) tie r.parents) items []
+        (entry + 2) 0) (sym h.is_root.tie)
+        (subst (λ ps. ItemsAt (plan g r) (code g r) (root_sides g.program r.branch) (EndAt (plan g r) (code g r) None ps) items []
+        (entry + 2) 0) (sym h.is_root.alone)
         (root_items g.program (plan g r) (home g r).parts r.core r.thread h.root (root_sides g.program r.branch) h.is_root.code)))
 
     rest_of : (branch : Branch) → slice_get start.branches r.branch ≡ Some branch → IsRootBranch h.root r.branch branch → Rest g r items 0 z
@@ -166,7 +169,14 @@ module _ (g : Setting) (who : Roles) (is : IsImageOf g who) where
       footprint = h.is_root.footprint ∙ ap footprint_of (sym b.items);
       parents = subst (λ ps. ParentsWait g start r.core r.family ps r.branch) (sym h.is_root.alone) tt;
       thread = subst (λ m. HasThread g r m branch.items (set_on r.core)) (sym b.mode)
-          (record { thread = running r.tie (entry + 2) (set_regs r); there = set_there; tied = refl; events = sym (ap is_watching b.items ∙ items_unwatched g r items [] (entry + 2) 0 code_there); is = refl });
+          (record {
+            thread = running r.tie (entry + 2) (set_regs r);
+            there = set_there;
+            tied = refl;
+            events = sym
+                (ap is_watching b.items ∙ items_unwatched g r items [] (entry + 2) 0 code_there);
+            is = refl;
+          });
       in_hand = empty refl;
       sides = is.sides r.branch branch known ∙ sym h.is_root.sides;
       inside = is.plain.outside r.branch branch known ∙ sym h.is_root.outside;

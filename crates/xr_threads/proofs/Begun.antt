@@ -373,7 +373,8 @@ module _ {moment : Moment none_rests} {hand : Option Hand} (thread_at : ThreadAt
   loose' some =
       let old : HoldsStore g r (record { core = a; world = x.state; hand = hand }) = b.has.holds in
       loose_behind g who who' c a left x.state world r core_is (laid_at moment c t r hand runs_r)
-      (st.loose c a at_c some) (record { words = λ k mine. refl; resources = others_same _ _ _ _ refl refl refl; store = λ v unchanged. refl })
+      (st.loose c a at_c some) (record
+      { words = λ k mine. refl; resources = others_same _ _ _ _ refl refl refl; store = λ v unchanged. refl })
       (record { holds = record { lengths = old.holds.lengths; values = old.holds.values }; room = old.room })
       (λ q listed its. let k = b.has.ports q listed its in record { port = k.port; there = k.there; declared = k.declared })
       (λ v nobody unchanged u q other at.
@@ -517,7 +518,8 @@ module _ {moment : Moment none_rests} {hand : Option Hand} (thread_at : ThreadAt
   less_of i placed there = subst (IsWithin (footprint_of (todo placed.code (ends ∷ [])))) (sym footprint_is) (branch_within all b.rest i placed.code (code_is i placed there))
 
   fits_of : (i : ℕ) (placed : Placed) → slice_get all_placed i ≡ Some placed → FitOn g r.core (todo placed.code (ends ∷ []))
-  fits_of i placed there = branch_fits g r.core all b.rest (fits_everywhere g r (does (kernel.par all) ∷ b.rest) outermost_block b.fits) i placed.code (code_of all i placed.code (code_is i placed there))
+  fits_of i placed there = branch_fits g r.core all b.rest (fits_everywhere g r (does (kernel.par all) ∷ b.rest) outermost_block b.fits) i
+      placed.code (code_of all i placed.code (code_is i placed there))
 
   holds_within : (f : Footprint) → IsWithin f r.footprint → Holds (places g r.core) f.uses 0 left.words world.store
   holds_within f less =
@@ -541,7 +543,8 @@ module _ {moment : Moment none_rests} {hand : Option Hand} (thread_at : ThreadAt
       record {
         pc = b.pc + 1;
         regs = b.regs;
-        here = here_at first_items (code_unwatched (plan g own) (code g own) own.sides (EndOf g own) first_items [] (b.pc + 1) b.jumps (b.own_code from (suc (length b.hand.threads)))) own_left;
+        here = here_at first_items (code_unwatched (plan g own) (code g own) own.sides (EndOf g own) first_items [] (b.pc + 1) b.jumps
+            (b.own_code from (suc (length b.hand.threads)))) own_left;
         bases = record { base = b.bases.base; stack = b.bases.stack; names = b.bases.names };
         stands = items_stand g own first_items [] (b.pc + 1) b.jumps b.regs left (b.own_code from (suc (length b.hand.threads)));
         fits = fits_here g own first_items outermost_block (fits_of 0 first_placed first_there) refl;
@@ -572,18 +575,22 @@ module _ {moment : Moment none_rests} {hand : Option Hand} (thread_at : ThreadAt
       let room = core.room u inside in
       let size = ap (λ (s : Sizes). s.words) (st.sizes c a at_c) in
       let stacks = core.stacks in
-      let plan_is : (plan g r).first_stack ≡ (g.plans c).first_stack = ap (λ (k : Block). (plan_in (g.plans r.core) k.plan).first_stack) outermost_block ∙ ap (λ k. (g.plans k).first_stack) core_is in
+      let plan_is : (plan g r).first_stack ≡ (g.plans c).first_stack = ap (λ (k : Block). (plan_in (g.plans r.core) k.plan).first_stack)
+      outermost_block ∙ ap (λ k. (g.plans k).first_stack) core_is in
       let sp = off.stack in
       record {
         pc = off.pc;
         regs = off.regs;
-        here = here_at items (code_unwatched (plan g r) (code g r) placed.sides (EndAt (plan g r) (code g r) (Some b.sync) []) items [] off.pc 0 off.at_code) off.here;
+        here = here_at items (code_unwatched (plan g r) (code g r) placed.sides (EndAt (plan g r) (code g r) (Some b.sync) []) items []
+            off.pc 0 off.at_code) off.here;
         bases = record {
           base = off.base;
           stack = omega (arith, sp, stacks, plan_is);
           names = record { by = λ place k e few. let none : None ≡ Some k = e in absurd (let z : ⊥ = cc in z) };
         };
-        stands = items_stand g (kid i u) items [] off.pc 0 off.regs left (subst (λ sides. ItemsAt (plan g r) (code g r) sides (EndAt (plan g r) (code g r) (Some b.sync) []) items [] off.pc 0) (ap sides_at (sym known)) off.at_code);
+        stands = items_stand g (kid i u) items [] off.pc 0 off.regs left
+            (subst (λ sides. ItemsAt (plan g r) (code g r) sides (EndAt (plan g r) (code g r) (Some b.sync) []) items [] off.pc 0)
+            (ap sides_at (sym known)) off.at_code);
         fits = fits_here g (kid i u) items outermost_block (fits_of i placed known) (ap footprint_of same);
         has = record {
           branch = branch;
@@ -637,7 +644,16 @@ module _ {moment : Moment none_rests} {hand : Option Hand} (thread_at : ThreadAt
         family = new.family ∙ family_is i within.1;
         footprint = ap (λ o. footprint_of (items_at o)) k.2 ∙ ap footprint_of (sym new.items);
         parents = tt;
-        thread = record { thread = running (Some b.sync) k.1.pc k.1.regs; there = k.1.here; tied = refl; events = events_on branch.mode branch.items false new.mode (sym (ap is_watching new.items ∙ rest_unwatched g (kid i u) (todo k.0.code (ends ∷ [])) 0 (record { core = left; world = world; hand = None }) rest)); is = subst (λ m. ThreadIs [] m Running) (sym new.mode) refl };
+        thread = record {
+          thread = running (Some b.sync) k.1.pc k.1.regs;
+          there = k.1.here;
+          tied = refl;
+          events = events_on branch.mode
+              branch.items false new.mode (sym
+              (ap is_watching new.items ∙ rest_unwatched g (kid i u) (todo k.0.code (ends ∷ [])) 0
+              (record { core = left; world = world; hand = None }) rest));
+          is = subst (λ m. ThreadIs [] m Running) (sym new.mode) refl;
+        };
         in_hand = empty refl;
         sides = new.sides ∙ ap sides_at (sym k.2);
         inside = new.inside ∙ maker_inside;
@@ -719,7 +735,16 @@ module _ {moment : Moment none_rests} {hand : Option Hand} (thread_at : ThreadAt
             },
             waiting_still,
           );
-          thread = record { thread = th'; there = own_left; tied = refl; events = events_on branch.mode branch.items false new.mode (sym (ap is_watching new.items ∙ rest_unwatched g own first_items b.jumps (record { core = left; world = world; hand = None }) rest)); is = subst (λ m. ThreadIs own.parents m Running) (sym new.mode) refl };
+          thread = record {
+            thread = th';
+            there = own_left;
+            tied = refl;
+            events = events_on branch.mode branch.items false new.mode
+                (sym (ap is_watching new.items ∙ rest_unwatched g own first_items b.jumps
+                (record { core = left; world = world; hand = None }) rest));
+            is = subst (λ m. ThreadIs own.parents m Running)
+                (sym new.mode) refl;
+          };
           in_hand = empty refl;
           sides = new.sides;
           inside = new.inside ∙ maker_inside;

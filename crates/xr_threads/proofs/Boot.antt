@@ -130,7 +130,8 @@ module _ (g : Setting) (r : Runner) where
       }
 
   -- an instruction that changes registers alone leads there, as far as the runner can tell
-  by_regs : (z : ThreadView) (pc : ℕ) (regs : Regs) (i : Instr) → IsAt g r z pc regs → instr_at (home g r) pc ≡ Some i → is_waiteu (Some i) ≡ false →
+  by_regs : (z : ThreadView) (pc : ℕ) (regs : Regs) (i : Instr) → IsAt g r z pc regs → instr_at (home g r) pc ≡ Some i →
+      is_waiteu (Some i) ≡ false →
       ((a : CoreState) (x : Thread) → row (home g r) a r.thread x i ≡ told (put_own a r.thread x) (own_row (own_of a x) i)) → (pc' : ℕ) (regs' : Regs) →
       ((words : List ℕ) → own_row (record { pc = pc; regs = regs; words = words }) i ≡ makes (record { pc = pc'; regs = regs'; words = words })) →
       (held : (u : ℕ) → IsAmong (held_in z.hand) u → u ≢ r.thread) →
@@ -164,7 +165,8 @@ module _ (g : Setting) (r : Runner) where
         record {
           thread = there ∙ sym (get_set_same z.core.threads r.thread th th' here);
           words = k.words;
-          resources = own_then (IsMine g r) r.thread _ _ _ (own_same _ _ _ _ refl refl refl) (own_then (IsMine g r) r.thread _ _ _ k.resources (own_same _ _ _ _ refl refl refl));
+          resources = own_then (IsMine g r) r.thread _ _ _ (own_same _ _ _ _ refl refl refl)
+              (own_then (IsMine g r) r.thread _ _ _ k.resources (own_same _ _ _ _ refl refl refl));
           branch = k.branch;
           parents = k.parents;
           store = k.store;
@@ -188,8 +190,10 @@ module _ (g : Setting) (r : Runner) where
     regs_set = reg_set (reg_set no_regs R0 (4 * stack)) Sp (4 * stack)
 
     -- By two steps it does both, and then it is on its way further as it is where its thread, among others, is behind them.
-    pub stack_leads : (z : ThreadView) (threads : List Thread) → IsAt g r z e no_regs → slice_get threads r.thread ≡ Some (running r.tie (e + 2) regs_set) → held_in z.hand ≡ [] → sync_in z.hand ≡ None →
-        (Q : ThreadView → Type 0) → IsStable g r Q → (n : ℕ) → LeadsIn g r Q n (record z { core = record z.core { threads = threads } }) → LeadsIn g r Q (1 + (1 + n)) z
+    pub stack_leads : (z : ThreadView) (threads : List Thread) → IsAt g r z e no_regs →
+        slice_get threads r.thread ≡ Some (running r.tie (e + 2) regs_set) → held_in z.hand ≡ [] → sync_in z.hand ≡ None →
+        (Q : ThreadView → Type 0) → IsStable g r Q → (n : ℕ) → LeadsIn g r Q n (record z { core = record z.core { threads = threads } }) →
+        LeadsIn g r Q (1 + (1 + n)) z
     stack_leads z threads here there none_held no_sync Q stable n on =
         let s = reg_set no_regs R0 (4 * stack) in
         let th1 = running r.tie (e + 1) s in
@@ -206,7 +210,8 @@ module _ (g : Setting) (r : Runner) where
         let kept : (y : ThreadView) → Rely g r z2 y → Rely g r past y = λ y k. record {
           thread = k.thread ∙ here2 ∙ ap (λ p. Some (running r.tie p regs_set)) two ∙ sym there;
           words = k.words;
-          resources = own_then (IsMine g r) r.thread _ _ _ (own_same _ _ _ _ refl refl refl) (own_then (IsMine g r) r.thread _ _ _ k.resources (own_same _ _ _ _ refl refl refl));
+          resources = own_then (IsMine g r) r.thread _ _ _ (own_same _ _ _ _ refl refl refl)
+              (own_then (IsMine g r) r.thread _ _ _ k.resources (own_same _ _ _ _ refl refl refl));
           branch = k.branch;
           parents = k.parents;
           store = k.store;

@@ -46,7 +46,8 @@ module _ (g : Setting) (r : Runner) (n : ℕ) where
   sync_kept z y owns k = record { own = record { thread = k.thread; words = k.words }; sync = k.syncs n owns }
 
   -- a quiet step is a silent one
-  quiet_silent : (y : ThreadView) (b : CoreState) → StillRuns g r y.core → QuietStep (home g r) r.thread y.core b → IsSilentStep g r y (after g r y b)
+  quiet_silent : (y : ThreadView) (b : CoreState) → StillRuns g r y.core → QuietStep (home g r) r.thread y.core b →
+      IsSilentStep g r y (after g r y b)
   quiet_silent y b on step =
       let th' : Thread = record step.thread { pc = step.after.pc; regs = step.after.regs } in
       let others : (u : ℕ) → u ≢ r.thread → slice_get b.threads u ≡ slice_get y.core.threads u = λ u ne.
@@ -62,7 +63,8 @@ module _ (g : Setting) (r : Runner) (n : ℕ) where
           as_many = ap (λ (c : CoreState). length c.threads) step.left ∙ length-set y.core.threads r.thread th';
           words = λ w not_mine. ap (λ (c : CoreState). slice_get c.words w) step.left ∙ step.words w tt;
           sizes = same_sizes (home g r) y.core r.thread b step.made;
-          resources = others_same _ _ _ _ (ap (λ (c : CoreState). c.ports) step.left) (ap (λ (c : CoreState). c.timers) step.left) (ap (λ (c : CoreState). c.events) step.left);
+          resources = others_same _ _ _ _ (ap (λ (c : CoreState). c.ports) step.left) (ap (λ (c : CoreState). c.timers) step.left)
+              (ap (λ (c : CoreState). c.events) step.left);
         };
         hand = keeps refl (ap (λ (c : CoreState). c.syncs) step.left) (same_use g r y (after g r y b) others);
         was = on;
@@ -70,7 +72,9 @@ module _ (g : Setting) (r : Runner) (n : ℕ) where
       }
 
   -- quiet steps are silent, so where they lead the runner comes, with what it had in hand
-  pub quiet_leads : (Q : CoreState → Type 0) (hand : Option Hand) (k : ℕ) (z : ThreadView) → z.hand ≡ hand → Owns r z.hand n → StillRuns g r z.core → Leads (KeptSync (relied g r) r.thread n) (QuietStep (home g r) r.thread) Q k z.core → LeadsIn g r (λ x. Q x.core × (x.hand ≡ hand)) k z
+  pub quiet_leads : (Q : CoreState → Type 0) (hand : Option Hand) (k : ℕ) (z : ThreadView) → z.hand ≡ hand → Owns r z.hand n →
+      StillRuns g r z.core → Leads (KeptSync (relied g r) r.thread n) (QuietStep (home g r) r.thread) Q k z.core →
+      LeadsIn g r (λ x. Q x.core × (x.hand ≡ hand)) k z
   quiet_leads Q hand zero z is owns on way = (way, is)
   quiet_leads Q hand (suc k) z is owns on way =
       ⊎_elim
@@ -110,7 +114,8 @@ module _ (g : Setting) (r : Runner) (p : Parent) (ps : List Parent) (n j : ℕ) 
     frees = h.frees;
   }
 
-pub closes_leads : (g : Setting) (r : Runner) (p : Parent) (ps : List Parent) (n j pc closed : ℕ) (z : ThreadView) (regs : Regs) (exits : List Exit) →
+pub closes_leads : (g : Setting) (r : Runner) (p : Parent) (ps : List Parent) (n j pc closed : ℕ) (z : ThreadView) (regs : Regs)
+    (exits : List Exit) →
     r.parents ≡ p ∷ ps → p.sync ≡ Some n → n < 8 → length (syncs_of ps) ≤ 6 → slice_get z.core.syncs n ≡ Some true →
     IsAt g r z pc regs → HasBases g r regs → ClosesAt (code g r) (plan g r) pc closed →
     ItemsAt (plan g r) (code g r) p.sides (EndAt (plan g r) (code g r) r.tie ps) p.items exits closed j → z.hand ≡ None → LeadsIn g r (Joins g r p ps j) 7 z
@@ -127,7 +132,8 @@ closes_leads g r p ps n j pc closed z regs exits parents sync few outer taken he
     (λ x h y k. joins_at g r p ps n j regs exits parents sync outer bases pc at_end z.core.words closes.place y behind' (h.0 y.core (sync_kept g r n x y (owned x.hand) k)) (k.hand ∙ h.1))
     (quiet_leads g r n Q None 7 z no_hand (owned z.hand) (at_runs g r z pc regs here) way)
 
-pub closes_lead : (g : Setting) (r : Runner) (p : Parent) (ps : List Parent) (n j pc closed : ℕ) (z : ThreadView) (regs : Regs) (exits : List Exit) →
+pub closes_lead : (g : Setting) (r : Runner) (p : Parent) (ps : List Parent) (n j pc closed : ℕ) (z : ThreadView) (regs : Regs)
+    (exits : List Exit) →
     r.parents ≡ p ∷ ps → p.sync ≡ Some n → n < 8 → length (syncs_of ps) ≤ 6 → slice_get z.core.syncs n ≡ Some true →
     IsAt g r z pc regs → HasBases g r regs → ClosesAt (code g r) (plan g r) pc closed →
     ItemsAt (plan g r) (code g r) p.sides (EndAt (plan g r) (code g r) r.tie ps) p.items exits closed j → z.hand ≡ None → IsJoining g r p ps (7 + j) z

@@ -83,15 +83,19 @@ none_living c (b ∷ bs) h =
 -- the branch's own step counts for its family
 pub counts_one : (g : Setting) (b : ℕ) (x : World) (branch : Branch) (actions : List Action) → slice_get x.branches b ≡ Some branch → 1 ≤ steps_of g.program g.stimulus branch.family (Some x) (go b ∷ actions)
 counts_one g b x branch actions known =
-    let one : counted_for branch.family (option_map family_of_branch (slice_get x.branches b)) ≡ 1 = ap (λ o. counted_for branch.family (option_map family_of_branch o)) known ∙ ap one_if (eq-eqb branch.family branch.family refl) in
+    let one : counted_for branch.family (option_map family_of_branch (slice_get x.branches b)) ≡ 1 = ap
+    (λ o. counted_for branch.family (option_map family_of_branch o)) known ∙ ap one_if (eq-eqb branch.family branch.family refl) in
     omega (arith, one)
 
 -- and so does each action of its own
-pub counts_own : (g : Setting) (b : ℕ) (x : World) (branch : Branch) (action : Action) (actions : List Action) → slice_get x.branches b ≡ Some branch → OwnAction b action → 1 ≤ steps_of g.program g.stimulus branch.family (Some x) (action ∷ actions)
+pub counts_own : (g : Setting) (b : ℕ) (x : World) (branch : Branch) (action : Action) (actions : List Action) →
+    slice_get x.branches b ≡ Some branch → OwnAction b action → 1 ≤ steps_of g.program g.stimulus branch.family (Some x) (action ∷ actions)
 counts_own g b x branch _ actions known own_go = counts_one g b x branch actions known
 counts_own g b x branch _ actions known (own_take n) =
-    let one : counted_for branch.family (option_map family_of_branch (slice_get x.branches b)) ≡ 1 = ap (λ o. counted_for branch.family (option_map family_of_branch o)) known ∙ ap one_if (eq-eqb branch.family branch.family refl) in
+    let one : counted_for branch.family (option_map family_of_branch (slice_get x.branches b)) ≡ 1 = ap
+    (λ o. counted_for branch.family (option_map family_of_branch o)) known ∙ ap one_if (eq-eqb branch.family branch.family refl) in
     omega (arith, one)
 counts_own g b x branch _ actions known own_default =
-    let one : counted_for branch.family (option_map family_of_branch (slice_get x.branches b)) ≡ 1 = ap (λ o. counted_for branch.family (option_map family_of_branch o)) known ∙ ap one_if (eq-eqb branch.family branch.family refl) in
+    let one : counted_for branch.family (option_map family_of_branch (slice_get x.branches b)) ≡ 1 = ap
+    (λ o. counted_for branch.family (option_map family_of_branch o)) known ∙ ap one_if (eq-eqb branch.family branch.family refl) in
     omega (arith, one)

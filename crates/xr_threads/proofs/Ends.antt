@@ -39,7 +39,8 @@ module _ (g : Setting) (r : Runner) where
   }
 
   -- the turn of a root's thread
-  end_frees : (rest : List Item) (pc : ℕ) (regs : Regs) (y : ThreadView) → r.tie ≡ None → r.parents ≡ [] → slice_get (code g r).instrs pc ≡ Some Freet → Has g r (ends ∷ rest) y → IsAt g r y pc regs → y.hand ≡ None → Frees g r y
+  end_frees : (rest : List Item) (pc : ℕ) (regs : Regs) (y : ThreadView) → r.tie ≡ None → r.parents ≡ [] →
+      slice_get (code g r).instrs pc ≡ Some Freet → Has g r (ends ∷ rest) y → IsAt g r y pc regs → y.hand ≡ None → Frees g r y
   end_frees rest pc regs y root alone instr has here no_hand =
       let th = running r.tie pc regs in
       let th' : Thread = record th { mode = Unused; pc = pc + 1 } in
@@ -70,7 +71,8 @@ module _ (g : Setting) (r : Runner) where
       }
 
   -- the turn of a tied thread
-  end_waits : (n : ℕ) (rest : List Item) (pc : ℕ) (regs : Regs) (y : ThreadView) → r.tie ≡ Some n → r.parents ≡ [] → SlaveEndsAt (code g r) (plan g r) pc → Has g r (ends ∷ rest) y → IsAt g r y pc regs → y.hand ≡ None → Waits g r y
+  end_waits : (n : ℕ) (rest : List Item) (pc : ℕ) (regs : Regs) (y : ThreadView) → r.tie ≡ Some n → r.parents ≡ [] →
+      SlaveEndsAt (code g r) (plan g r) pc → Has g r (ends ∷ rest) y → IsAt g r y pc regs → y.hand ≡ None → Waits g r y
   end_waits n rest pc regs y tied alone piece has here no_hand =
       let th = running r.tie pc regs in
       let th' : Thread = record th { mode = Waiting; pc = pc + 1 } in
@@ -102,12 +104,14 @@ module _ (g : Setting) (r : Runner) where
       }
 
   -- one or the other, by the tie
-  end_turns : (tie : Option ℕ) → r.tie ≡ tie → (j : ℕ) (rest : List Item) (pc : ℕ) (regs : Regs) (y : ThreadView) → r.parents ≡ [] → LastAt (plan g r) (code g r) tie pc → Has g r (ends ∷ rest) y → IsAt g r y pc regs → y.hand ≡ None → Turn g r j y
+  end_turns : (tie : Option ℕ) → r.tie ≡ tie → (j : ℕ) (rest : List Item) (pc : ℕ) (regs : Regs) (y : ThreadView) → r.parents ≡ [] →
+      LastAt (plan g r) (code g r) tie pc → Has g r (ends ∷ rest) y → IsAt g r y pc regs → y.hand ≡ None → Turn g r j y
   end_turns None is j rest pc regs y alone last has here no_hand = turn.frees (end_frees rest pc regs y is alone last has here no_hand)
   end_turns (Some n) is j rest pc regs y alone last has here no_hand = turn.waits_tied (end_waits n rest pc regs y is alone last has here no_hand)
 
   -- where it ends the thread's turn is next, and the branch ends with it
-  pub end_leads : (rest : List Item) (pc j most : ℕ) (z : ThreadView) (regs : Regs) → r.parents ≡ [] → LastAt (plan g r) (code g r) r.tie pc →
+  pub end_leads : (rest : List Item) (pc j most : ℕ) (z : ThreadView) (regs : Regs) → r.parents ≡ [] →
+      LastAt (plan g r) (code g r) r.tie pc →
       Has g r (ends ∷ rest) z → IsAt g r z pc regs → z.hand ≡ None → Leads g r most j z
   end_leads rest pc j most z regs alone last has here no_hand =
       leads_now g r (Turns g r j) most z

@@ -114,7 +114,10 @@ module _ (g : Setting) (r : Runner) where
   }
 
   -- where the thread's next step traps with the error that the branch's first item has, both err
-  pub value_errs : (y : ThreadView) (i : Item) (rest : List Item) (kind : ErrorKind) (pos : Pos) → works.Errs (home g r) r.thread kind pos y.core → (has : Has g r (i ∷ rest) y) → y.hand ≡ None → does_item (step_of g.program g.stimulus y.world r.branch has.branch rest) i ≡ errs (step_of g.program g.stimulus y.world r.branch has.branch rest) (kind_of kind) pos → Errs g r y
+  pub value_errs : (y : ThreadView) (i : Item) (rest : List Item) (kind : ErrorKind) (pos : Pos) →
+      works.Errs (home g r) r.thread kind pos y.core → (has : Has g r (i ∷ rest) y) → y.hand ≡ None →
+      does_item (step_of g.program g.stimulus y.world r.branch has.branch rest) i ≡ errs
+      (step_of g.program g.stimulus y.world r.branch has.branch rest) (kind_of kind) pos → Errs g r y
   value_errs y i rest kind pos traps has no_hand erred =
       let st = step_of g.program g.stimulus y.world r.branch has.branch rest in
       record {

@@ -231,7 +231,9 @@ module _ (moment : Moment none_rests)
         (begins_followed thread_here j h stand' out few)
 
     -- a silent step
-    on_the_way : (z : ThreadView) → ((mode : ThreadMode) → mode ≡ Running → ThreadIs r.parents branch.mode mode) → ((bit : Bool) → bit ≡ false → EventsAre branch.mode branch.items bit) → IsSilentStep g r now z → (left : ℕ) → suc left ≤ stand.left → StandsBy g r false branch.items branch.mode left z → Leaves (slot (home g r) a r.thread) → Goal
+    on_the_way : (z : ThreadView) → ((mode : ThreadMode) → mode ≡ Running → ThreadIs r.parents branch.mode mode) →
+        ((bit : Bool) → bit ≡ false → EventsAre branch.mode branch.items bit) → IsSilentStep g r now z → (left : ℕ) →
+        suc left ≤ stand.left → StandsBy g r false branch.items branch.mode left z → Leaves (slot (home g r) a r.thread) → Goal
     on_the_way z alive calm silent left few by e =
         goal_of none_rests (λ d u ne. refl) z.core None [] (ap (stepped (home g r) w.machine r.core r.thread a) silent.made) e
         (silent_followed (branch_of thread_here branch known stand) z alive calm silent left few by)
@@ -241,9 +243,11 @@ module _ (moment : Moment none_rests)
     running_alive is_running mode e = subst (λ k. ThreadIs r.parents k mode) (sym is_running) e
 
     -- which takes no events before a silent step, and so none behind it
-    running_calm : branch.mode ≡ runs → (z : ThreadView) → IsSilentStep g r now z → (bit : Bool) → bit ≡ false → EventsAre branch.mode branch.items bit
+    running_calm : branch.mode ≡ runs → (z : ThreadView) → IsSilentStep g r now z → (bit : Bool) → bit ≡ false →
+        EventsAre branch.mode branch.items bit
     running_calm is_running z silent bit e =
-        let same : stand.thread.thread ≡ silent.was.thread = same_Some stand.thread.thread silent.was.thread (sym stand.thread.there ∙ silent.was.there) in
+        let same : stand.thread.thread ≡ silent.was.thread = same_Some stand.thread.thread silent.was.thread
+        (sym stand.thread.there ∙ silent.was.there) in
         let is = subst (λ k. EventsAre k branch.items stand.thread.thread.event_bit) is_running stand.thread.events in
         events_on branch.mode branch.items bit is_running (e ∙ sym silent.was.no_events ∙ ap (λ (i : Thread). i.event_bit) (sym same) ∙ is)
 

@@ -55,7 +55,8 @@ module _ (g : Setting) (r : Runner) where
     spare = subst (λ h. SpareFor h y.core) is k.spare;
   }
 
-  module _ (y : ThreadView) (hand hand' : Hand) (is : y.hand ≡ Some hand) (b : CoreState) (running_on : StillRuns g r y.core) (step : HandStep (home g r) r.thread hand hand' y.core b) where
+  module _ (y : ThreadView) (hand hand' : Hand) (is : y.hand ≡ Some hand) (b : CoreState) (running_on : StillRuns g r y.core)
+      (step : HandStep (home g r) r.thread hand hand' y.core b) where
     abbrev next : ThreadView
     next = record { core = b; world = y.world; hand = Some hand' }
 
@@ -81,7 +82,8 @@ module _ (g : Setting) (r : Runner) where
             as_many = ap (λ (c : CoreState). length c.threads) left ∙ length-set y.core.threads r.thread th';
             words = λ w mine. all_words w;
             sizes = same_sizes (home g r) y.core r.thread b step.made;
-            resources = others_same _ _ _ _ (ap (λ (c : CoreState). c.ports) left) (ap (λ (c : CoreState). c.timers) left) (ap (λ (c : CoreState). c.events) left);
+            resources = others_same _ _ _ _ (ap (λ (c : CoreState). c.ports) left) (ap (λ (c : CoreState). c.timers) left)
+                (ap (λ (c : CoreState). c.events) left);
           };
           roots = ap (λ (c : CoreState). c.roots) left;
           channel_ends = ap (λ (c : CoreState). c.ends) left;
@@ -100,11 +102,13 @@ module _ (g : Setting) (r : Runner) where
             as_many = ap (λ (c : CoreState). length c.threads) left ∙ length-set y.core.threads r.thread th';
             words = λ w mine. ap (λ (c : CoreState). slice_get c.words w) left;
             sizes = ap sizes_of left;
-            resources = others_same _ _ _ _ (ap (λ (c : CoreState). c.ports) left) (ap (λ (c : CoreState). c.timers) left) (ap (λ (c : CoreState). c.events) left);
+            resources = others_same _ _ _ _ (ap (λ (c : CoreState). c.ports) left) (ap (λ (c : CoreState). c.timers) left)
+                (ap (λ (c : CoreState). c.events) left);
           };
           roots = ap (λ (c : CoreState). c.roots) left;
           channel_ends = ap (λ (c : CoreState). c.ends) left;
-          change = views.gets_sync hand n is none (first_free_is y.core.syncs n first) (ap (λ (c : CoreState). c.syncs) left) (ap Some same) (same_use g r y next others);
+          change = views.gets_sync hand n is none (first_free_is y.core.syncs n first) (ap (λ (c : CoreState). c.syncs) left)
+              (ap Some same) (same_use g r y next others);
           on = runs_on y.core b step.thread y.core.threads (step.thread.pc + 1) regs running_on step.here refl (ap (λ (c : CoreState). c.threads) left);
           words = λ w. ap (λ (c : CoreState). slice_get c.words w) left;
           ports = ap (λ (c : CoreState). c.ports) left;
@@ -123,7 +127,8 @@ module _ (g : Setting) (r : Runner) where
             as_many = ap (λ (c : CoreState). length c.threads) left ∙ length-set threads r.thread th' ∙ length-set y.core.threads u (tied_to n x);
             words = λ w mine. ap (λ (c : CoreState). slice_get c.words w) left;
             sizes = ap sizes_of left;
-            resources = others_same _ _ _ _ (ap (λ (c : CoreState). c.ports) left) (ap (λ (c : CoreState). c.timers) left) (ap (λ (c : CoreState). c.events) left);
+            resources = others_same _ _ _ _ (ap (λ (c : CoreState). c.ports) left) (ap (λ (c : CoreState). c.timers) left)
+                (ap (λ (c : CoreState). c.events) left);
           };
           roots = ap (λ (c : CoreState). c.roots) left;
           channel_ends = ap (λ (c : CoreState). c.ends) left;
@@ -146,7 +151,8 @@ module _ (g : Setting) (r : Runner) where
             as_many = ap (λ (c : CoreState). length c.threads) left ∙ length-set threads r.thread th' ∙ length-set y.core.threads u x';
             words = λ w mine. ap (λ (c : CoreState). slice_get c.words w) left;
             sizes = ap sizes_of left;
-            resources = others_same _ _ _ _ (ap (λ (c : CoreState). c.ports) left) (ap (λ (c : CoreState). c.timers) left) (ap (λ (c : CoreState). c.events) left);
+            resources = others_same _ _ _ _ (ap (λ (c : CoreState). c.ports) left) (ap (λ (c : CoreState). c.timers) left)
+                (ap (λ (c : CoreState). c.events) left);
           };
           roots = ap (λ (c : CoreState). c.roots) left;
           channel_ends = ap (λ (c : CoreState). c.ends) left;
@@ -174,7 +180,16 @@ module _ (g : Setting) (r : Runner) where
 
     -- nobody sees it
     pub hand_silent : IsSilentStep g r y next
-    hand_silent = record { made = step.made; world = refl; roots = left.roots; channel_ends = left.channel_ends; touched = left.touched; hand = left.change; was = running_on; on = left.on }
+    hand_silent = record {
+      made = step.made;
+      world = refl;
+      roots = left.roots;
+      channel_ends = left.channel_ends;
+      touched = left.touched;
+      hand = left.change;
+      was = running_on;
+      on = left.on;
+    }
 
     -- the thread runs on
     pub still_on : StillRuns g r b
@@ -203,7 +218,8 @@ module _ (g : Setting) (r : Runner) where
     pub there : Q hand x.core
     pub has : Has g r items x
 
-  pub hand_leads : (Q : Hand → CoreState → Type 0) (items : List Item) (n : ℕ) (y : ThreadView) (hand : Hand) → y.hand ≡ Some hand → StillRuns g r y.core → Has g r items y →
+  pub hand_leads : (Q : Hand → CoreState → Type 0) (items : List Item) (n : ℕ) (y : ThreadView) (hand : Hand) → y.hand ≡ Some hand →
+      StillRuns g r y.core → Has g r items y →
       WithinHand (home g r) (relied g r) r.thread Q n hand y.core → LeadsIn g r (Reached Q items) n y
   hand_leads Q items zero y hand is on has way = record { hand = hand; in_hand = is; there = way; has = has }
   hand_leads Q items (suc n) y hand is on has way =

@@ -453,8 +453,10 @@ module _ {moment : Moment none_rests} {hand : Option Hand} {thread_at : ThreadAt
   at_left = get_set_same w.machine.cores c a z.core at_c
 
   -- the view, with what the hand is
-  view_is : (hand' : Option Hand) → z.hand ≡ hand' → (P : ThreadView → Type 0) → P z → P (record { core = z.core; world = x.state; hand = hand' })
-  view_is hand' e P h = subst (λ k. P (record { core = z.core; world = x.state; hand = k })) e (subst (λ v. P (record { core = z.core; world = v; hand = z.hand })) silent.world h)
+  view_is : (hand' : Option Hand) → z.hand ≡ hand' → (P : ThreadView → Type 0) → P z →
+      P (record { core = z.core; world = x.state; hand = hand' })
+  view_is hand' e P h = subst (λ k. P (record { core = z.core; world = x.state; hand = k })) e
+      (subst (λ v. P (record { core = z.core; world = v; hand = z.hand })) silent.world h)
 
   by_roles : (hand' : Option Hand) → z.hand ≡ hand' → (who' : Roles) (moved : ℕ → Bool) → SilentRoles g who who' c t r hand hand' a z.core branch moved → (AreNamed g who w x → AreNamed g who' (watched_after w (Step c t) silent_machine) nothing_told) →
       Follows g none_rests who w x (watched_after w (Step c t) silent_machine)

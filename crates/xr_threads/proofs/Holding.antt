@@ -44,13 +44,15 @@ only_same v w e = grind arith
 only_itself : (v : ℕ) → only v v ≡ true
 only_itself v = grind arith
 
-holds_only : (vars : List (Option VarPlan)) (uses : ℕ → Bool) (words : List ℕ) (store : Store) (v : ℕ) → uses v ≡ true → Holds vars uses 0 words store → Holds vars (only v) 0 words store
+holds_only : (vars : List (Option VarPlan)) (uses : ℕ → Bool) (words : List ℕ) (store : Store) (v : ℕ) → uses v ≡ true →
+    Holds vars uses 0 words store → Holds vars (only v) 0 words store
 holds_only vars uses words store v meant h = record {
   lengths = λ w n found near is. h.lengths w n found near (ap uses (sym (only_same v w is)) ∙ meant);
   values = λ w n i x found near is there. h.values w n i x found near (ap uses (sym (only_same v w is)) ∙ meant) there;
 }
 
-holds_all : (vars : List (Option VarPlan)) (uses : ℕ → Bool) (words : List ℕ) (store : Store) → ((v : ℕ) → uses v ≡ true → Holds vars (only v) 0 words store) → Holds vars uses 0 words store
+holds_all : (vars : List (Option VarPlan)) (uses : ℕ → Bool) (words : List ℕ) (store : Store) →
+    ((v : ℕ) → uses v ≡ true → Holds vars (only v) 0 words store) → Holds vars uses 0 words store
 holds_all vars uses words store each = record {
   lengths = λ w n found near is. (each w is).lengths w n found near (only_itself w);
   values = λ w n i x found near is there. (each w is).values w n i x found near (only_itself w) there;
@@ -169,7 +171,8 @@ module _ (g : Setting) (who : Roles) (x : World) (lawful : Lawful g.program x)
         (apart_of u s other runs'))
 
     -- so its runner finds all as the program has it
-    module _ (s : Runner) (a : CoreState) (loose : AreLoose g who c a x) (on : s.core ≡ c) (has : s.footprint ≡ footprint_of p.items) (room : s.stack + temporary ≤ length a.words) where
+    module _ (s : Runner) (a : CoreState) (loose : AreLoose g who c a x) (on : s.core ≡ c) (has : s.footprint ≡ footprint_of p.items)
+        (room : s.stack + temporary ≤ length a.words) where
       wanted : (v : ℕ) → (footprint_of p.items).uses v ≡ true → IsWanted who c v
       wanted v uses = record { thread = t; runner = r; hand = hand; runs = runs; parent = p; waits = subst (λ qs. IsParent qs p) (sym parents) (inl refl); uses = uses }
 
@@ -205,10 +208,12 @@ module _ (g : Setting) (who who' : Roles) (c : ℕ) (a b : CoreState) (x y : Wor
     (has : (q : ℕ) → NobodyHas who' c q → r.footprint.ports q ≡ false → NobodyHas who c q) where
   -- what it used it holds
   used_holds : (v : ℕ) → r.footprint.uses v ≡ true → Holds (places g c) (only v) 0 b.words y.store
-  used_holds v uses = subst (λ k. Holds (places g k) (only v) 0 b.words y.store) on (holds_only (places g r.core) r.footprint.uses b.words y.store v uses holds.holds)
+  used_holds v uses = subst (λ k. Holds (places g k) (only v) 0 b.words y.store) on
+      (holds_only (places g r.core) r.footprint.uses b.words y.store v uses holds.holds)
 
   -- a variable that it doesn't change has its words still
-  not_its_own : (v n i w : ℕ) (found : VarPlan) → r.footprint.changes v ≡ false → IsNear (places g r.core) v n found → i < found.words → w ≡ 0 + n + i → MayChange g r w → ⊥
+  not_its_own : (v n i w : ℕ) (found : VarPlan) → r.footprint.changes v ≡ false → IsNear (places g r.core) v n found → i < found.words →
+      w ≡ 0 + n + i → MayChange g r w → ⊥
   not_its_own v n i w found unchanged near lt is (of_variable v' n' i' found' near' changed' lt' is') =
       let same : v ≡ v' = laid.frame.disjoint v n i v' n' i' found found' near near' lt lt' (omega (arith, is, is')) in
       true≢false (sym changed' ∙ ap r.footprint.changes (sym same) ∙ unchanged)
@@ -227,7 +232,8 @@ module _ (g : Setting) (who who' : Roles) (c : ℕ) (a b : CoreState) (x y : Wor
           ⊎_elim
           (λ (w : IsWanted who c v).
           holds_on (places g c) v a.words b.words x.store y.store (leaves.store v e)
-          (λ n i found near lt. leaves.words (0 + n + i) (not_its_own v n i (0 + n + i) found e (subst (λ k. IsNear (places g k) v n found) (sym on) near) lt (omega arith)))
+          (λ n i found near lt. leaves.words (0 + n + i)
+          (not_its_own v n i (0 + n + i) found e (subst (λ k. IsNear (places g k) v n found) (sym on) near) lt (omega arith)))
           (loose.variables v (changes v nobody e) w))
           (λ (uses : r.footprint.uses v ≡ true). used_holds v uses)
           (wants v wanted)
@@ -249,7 +255,8 @@ module _ (g : Setting) (who who' : Roles) (c : ℕ) (a b : CoreState) (x y : Wor
             there =
                 port_same a b (port_place g (anyone c) q) (leaves.resources.parts (ResPort (port_place g (anyone c) q))
                 (λ m.
-                let one = numbers_differ core_of_port g.program.ports r.core q m.port listed m.listed is.known m.is.known (is.core ∙ sym on) m.is.core (sym (place_here q) ∙ m.place) in
+                let one = numbers_differ core_of_port g.program.ports r.core q m.port listed m.listed is.known m.is.known
+                (is.core ∙ sym on) m.is.core (sym (place_here q) ∙ m.place) in
                 true≢false (sym m.is.mine ∙ ap r.footprint.ports (sym one) ∙ e)))
                 ∙ at.there;
             declared = at.declared;
@@ -292,7 +299,8 @@ pub loose_far : (g : Setting) (who who' : Roles) (c : ℕ) (a : CoreState) (x y 
 loose_far g who who' c a x y loose same store = record {
   variables = λ v nobody w.
       let old : IsWanted who c v = record { thread = w.thread; runner = w.runner; hand = w.hand; runs = sym (same w.thread) ∙ w.runs; parent = w.parent; waits = w.waits; uses = w.uses } in
-      holds_on (places g c) v a.words a.words x.store y.store (store v old) (λ n i found near lt. refl) (loose.variables v (λ t r hand e. nobody t r hand (same t ∙ e)) old);
+      holds_on (places g c) v a.words a.words x.store y.store (store v old) (λ n i found near lt. refl)
+      (loose.variables v (λ t r hand e. nobody t r hand (same t ∙ e)) old);
   ports = λ p listed is nobody.
       let at = loose.ports p listed is (λ t r hand e. nobody t r hand (same t ∙ e)) in
       record { port = at.port; there = at.there; declared = at.declared };

@@ -1,4 +1,5 @@
--- The identifiers by which a runner's code finds its ports and its channels' ends: the code's plan says where they are to be had, and they name these.
+-- The identifiers by which a runner's code finds its ports and its channels' ends: the code's plan says where they are to be had, and
+-- they name these.
 use Rattle.std.proofs.Common.{◌≡◌, ℕ, ◌*◌, Some, refl}
 use Rattle.std.specs.Prelude.{slice_get}
 use Rattle.xs_instr.specs.Resources.{AnEnd, APort, named}

@@ -118,7 +118,8 @@ module _ (g : Setting) (checked : IsChecked g.program) (core : ℕ) (is_core : c
 
 -- A runner on its core.
 module _ (g : Setting) (checked : IsChecked g.program) (stay : StayOnCores g.program) (r : Runner) (is_core : r.core < 4) (im : IsImaged g.program r.core (parts_in g.image.cores r.core) (g.plans r.core))
-    (inside : r.thread < threads_on g.program r.core) (block : r.block ≡ outside) (stack : r.stack ≡ temporary_of g.program r.core r.thread) where
+    (inside : r.thread < threads_on g.program r.core) (block : r.block ≡ outside)
+    (stack : r.stack ≡ temporary_of g.program r.core r.thread) where
   not_temporary : (v n i : ℕ) (found : VarPlan) → IsNear (places g r.core) v n found → i < found.words → IsApart r.stack (0 + n + i)
   not_temporary v n i found near lt =
       ⊎_elim
@@ -129,10 +130,13 @@ module _ (g : Setting) (checked : IsChecked g.program) (stay : StayOnCores g.pro
   frame : Frame (places g r.core) (relied g r) r.footprint.uses r.stack 0
   frame = record {
     near = λ v found known. let p = planned_at g checked r.core is_core im v found known in (p.first, p.near);
-    low = λ v n i found near lt. let a = below_words g checked r.core is_core im v n found near in let b = words_small g checked r.core is_core im in omega (arith, a, b, lt);
+    low = λ v n i found near lt. let a = below_words g checked r.core is_core im v n found near in let b = words_small g checked r.core
+        is_core im in omega (arith, a, b, lt);
     relied_on = λ v n i found near used lt.
-        or_right (is_among_words r.stack temporary (0 + n + i)) (is_word_among 0 (places g r.core) r.footprint.uses (length (places g r.core)) (0 + n + i))
-        (is_there 0 (places g r.core) r.footprint.uses (0 + n + i) (record { variable = v; first = n; place = i; found = found; near = near; meant = used; within = lt; is = refl }));
+        or_right (is_among_words r.stack temporary (0 + n + i))
+        (is_word_among 0 (places g r.core) r.footprint.uses (length (places g r.core)) (0 + n + i))
+        (is_there 0 (places g r.core) r.footprint.uses (0 + n + i)
+        (record { variable = v; first = n; place = i; found = found; near = near; meant = used; within = lt; is = refl }));
     apart = not_temporary;
     disjoint = im.planned.apart;
   }
@@ -160,11 +164,13 @@ pub core_is : (g : Setting) (checked : IsChecked g.program) → StayOnCores g.pr
 core_is g checked stay core is_core im = record {
   laid = λ r on inside block stack used.
       laid_out g checked stay r (subst (λ c. c < 4) (sym on) is_core) (subst (λ c. IsImaged g.program c (parts_in g.image.cores c) (g.plans c)) (sym on) im)
-      (subst (λ c. r.thread < threads_on g.program c) (sym on) inside) block (stack ∙ ap (λ c. temporary_of g.program c r.thread) (sym on)) used;
+      (subst (λ c. r.thread < threads_on g.program c) (sym on) inside) block
+      (stack ∙ ap (λ c. temporary_of g.program c r.thread) (sym on)) used;
   room = room g checked core is_core im;
   stacks = im.planned.first_stack;
   sizes = sizes_are g checked core is_core im;
   ports = ports_are g checked core is_core im;
   timers = timers_are g checked core is_core im;
-  ports_differ = λ p q listed other is is' same. numbers_differ core_of_port g.program.ports core p q listed other is.known is'.known is.core is'.core same;
+  ports_differ = λ p q listed other is is' same. numbers_differ core_of_port g.program.ports core p q listed other is.known is'.known
+      is.core is'.core same;
 }

@@ -120,7 +120,8 @@ module _ {moment : Moment none_rests} {thread_at : ThreadAt moment None} (branch
   -- and takes no events
   unwatched : is_watching branch.items ≡ false
   unwatched =
-      let same : stand.thread.thread ≡ running r.tie pc regs = same_Some stand.thread.thread (running r.tie pc regs) (sym stand.thread.there ∙ here) in
+      let same : stand.thread.thread ≡ running r.tie pc regs = same_Some stand.thread.thread (running r.tie pc regs)
+      (sym stand.thread.there ∙ here) in
       let is = subst (λ m. EventsAre m branch.items stand.thread.thread.event_bit) on stand.thread.events in
       sym is ∙ ap (λ (i : Thread). i.event_bit) same
 
@@ -131,7 +132,14 @@ module _ {moment : Moment none_rests} {thread_at : ThreadAt moment None} (branch
     family = stand.family;
     footprint = stand.footprint;
     parents = stand.parents;
-    thread = record { thread = running r.tie (pc + 1) regs; there = gone_on g r a pc regs regs here ends; tied = refl; events = events_on branch.mode branch.items false on (sym unwatched); is = subst (λ m. ThreadIs r.parents m Running) (sym on) refl };
+    thread = record {
+      thread = running r.tie (pc + 1) regs;
+      there = gone_on g r a pc regs regs here ends;
+      tied = refl;
+      events = events_on
+          branch.mode branch.items false on (sym unwatched);
+      is = subst (λ m. ThreadIs r.parents m Running) (sym on) refl;
+    };
     in_hand = empty refl;
     sides = stand.sides;
     inside = stand.inside;

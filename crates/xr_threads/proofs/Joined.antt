@@ -249,7 +249,12 @@ module _ {moment : Moment none_rests} (thread_at : ThreadAt moment None)
         let there : slice_get a.threads u ≡ Some run.thread = ap (slice_get a.threads) (sym (st.roles.thread c u s other e)) ∙ run.there in (
           _,
           get_set_other joined_threads r.thread u th' (λ f. ne (f ∙ thread_is)) ∙ joined_one a.threads n u run.thread there (num_same run.thread.tie n (run.tied ∙ tie)),
-          record { unused = refl; no_events = over_calm run.branch.mode run.branch.items run.thread.event_bit (joined_thread u s other e tie).over run.events; untied = refl },
+          record {
+            unused = refl;
+            no_events = over_calm run.branch.mode run.branch.items run.thread.event_bit
+                (joined_thread u s other e tie).over run.events;
+            untied = refl;
+          },
           refl,
         )
 
@@ -585,8 +590,10 @@ module _ {moment : Moment none_rests} (thread_at : ThreadAt moment None)
     has' : Has g maker p.items (record { core = left; world = world; hand = giving_back n })
     has' =
         let works = works_at moment in
-        let h = holds_behind g who x.state st.lawful works c t r None p ps runs_r parents have_ended maker a (st.loose c a at_c some_threads) core_is refl room None in
-        let ports = ports_behind g who x.state st.lawful works c t r None p ps runs_r parents have_ended maker a (st.loose c a at_c some_threads) core_is refl room None in
+        let h = holds_behind g who x.state st.lawful works c t r None p ps runs_r parents have_ended maker a
+        (st.loose c a at_c some_threads) core_is refl room None in
+        let ports = ports_behind g who x.state st.lawful works c t r None p ps runs_r parents have_ended maker a
+        (st.loose c a at_c some_threads) core_is refl room None in
         record {
           branch = next;
           runs = record { known = next_there; running = refl; items_are = chain.0.items };
@@ -633,7 +640,14 @@ module _ {moment : Moment none_rests} (thread_at : ThreadAt moment None)
       footprint = ap footprint_of (sym chain.0.items);
       parents = parents_still g maker x.state world r.core r.family ps p.branch
           (λ b m. other_there b (λ e. let lt = parents_below g x.state (length g.program.roots) r.core r.family forest ps p.branch chain.1 b m in let z : ⊥ = omega (arith, lt, e) in z)) chain.1;
-      thread = record { thread = th'; there = own_left; tied = refl; events = sym (ap is_watching chain.0.items ∙ items_unwatched g maker p.items gives'.exits (gives'.pc + 1) j gives'.at_code); is = refl };
+      thread = record {
+        thread = th';
+        there = own_left;
+        tied = refl;
+        events = sym
+            (ap is_watching chain.0.items ∙ items_unwatched g maker p.items gives'.exits (gives'.pc + 1) j gives'.at_code);
+        is = refl;
+      };
       in_hand = gives_back n refl;
       sides = chain.0.sides;
       inside = chain.0.inside;

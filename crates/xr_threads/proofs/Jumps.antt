@@ -32,7 +32,9 @@ module _ (g : Setting) (r : Runner) where
   moved_to a pc p regs = put_own a r.thread (running r.tie pc regs) (record { pc = p; regs = regs; words = a.words })
 
   -- a jump leads there
-  jump_made : (y : ThreadView) (pc p : ℕ) (regs : Regs) → IsAt g r y pc regs → (slice_get (code g r).instrs pc ≡ Some (Brfu p)) ⊎ (slice_get (code g r).instrs pc ≡ Some (Brbu p)) → slot (home g r) y.core r.thread ≡ makes (moved_to y.core pc p regs)
+  jump_made : (y : ThreadView) (pc p : ℕ) (regs : Regs) → IsAt g r y pc regs →
+      (slice_get (code g r).instrs pc ≡ Some (Brfu p)) ⊎ (slice_get (code g r).instrs pc ≡ Some (Brbu p)) →
+      slot (home g r) y.core r.thread ≡ makes (moved_to y.core pc p regs)
   jump_made y pc p regs here at_pc =
       ⊎_elim
       (λ instr. turn_is_row (home g r) y.core r.thread r.tie pc regs (Brfu p) here instr refl)
@@ -40,7 +42,9 @@ module _ (g : Setting) (r : Runner) where
       at_pc
 
   -- which nobody sees
-  jump_silent : (y : ThreadView) (pc p : ℕ) (regs : Regs) → IsAt g r y pc regs → (slice_get (code g r).instrs pc ≡ Some (Brfu p)) ⊎ (slice_get (code g r).instrs pc ≡ Some (Brbu p)) → IsSilentStep g r y (after g r y (moved_to y.core pc p regs))
+  jump_silent : (y : ThreadView) (pc p : ℕ) (regs : Regs) → IsAt g r y pc regs →
+      (slice_get (code g r).instrs pc ≡ Some (Brfu p)) ⊎ (slice_get (code g r).instrs pc ≡ Some (Brbu p)) →
+      IsSilentStep g r y (after g r y (moved_to y.core pc p regs))
   jump_silent y pc p regs here at_pc =
       let th' = running r.tie p regs in
       record {
@@ -62,7 +66,8 @@ module _ (g : Setting) (r : Runner) where
       }
 
   -- and leaves all that the runner has
-  has_moved : (y : ThreadView) (pc p : ℕ) (regs : Regs) (items : List Item) → Has g r items y → Has g r items (after g r y (moved_to y.core pc p regs))
+  has_moved : (y : ThreadView) (pc p : ℕ) (regs : Regs) (items : List Item) → Has g r items y →
+      Has g r items (after g r y (moved_to y.core pc p regs))
   has_moved y pc p regs items has = record {
     branch = has.branch;
     runs = has.runs;
@@ -72,7 +77,8 @@ module _ (g : Setting) (r : Runner) where
   }
 
   -- Jumps on the way: what lasts, and is left by a jump, holds where they lead.
-  module _ (P Q : ThreadView → Type 0) (lasts : IsStable g r P) (moved : (y : ThreadView) (pc p : ℕ) (regs : Regs) → P y → P (after g r y (moved_to y.core pc p regs))) where
+  module _ (P Q : ThreadView → Type 0) (lasts : IsStable g r P)
+      (moved : (y : ThreadView) (pc p : ℕ) (regs : Regs) → P y → P (after g r y (moved_to y.core pc p regs))) where
     pub jumps_way : (k m : ℕ) (z : ThreadView) (pc q : ℕ) (regs : Regs) → pieces.Jumps (code g r) k pc q → IsAt g r z pc regs → P z →
         ((y : ThreadView) → IsAt g r y q regs → P y → LeadsIn g r Q m y) → LeadsIn g r Q (k + m) z
     jumps_way zero m z pc q regs jumps here has next =
@@ -88,7 +94,8 @@ module _ (g : Setting) (r : Runner) where
         subst (λ n. LeadsIn g r Q n z) e all
 
   -- so the branch has what it had
-  pub jumps_lead : (k m j : ℕ) (z : ThreadView) (pc q : ℕ) (regs : Regs) (items : List Item) → pieces.Jumps (code g r) k pc q → IsAt g r z pc regs →
+  pub jumps_lead : (k m j : ℕ) (z : ThreadView) (pc q : ℕ) (regs : Regs) (items : List Item) → pieces.Jumps (code g r) k pc q →
+      IsAt g r z pc regs →
       Has g r items z → ((y : ThreadView) → IsAt g r y q regs → Has g r items y → y.hand ≡ z.hand → Leads g r m j y) → Leads g r (k + m) j z
   jumps_lead k m j z pc q regs items jumps here has next =
       jumps_way (λ y. Has g r items y × (y.hand ≡ z.hand)) (Turns g r j)

@@ -60,13 +60,17 @@ module _ (base : ℕ) (vars : List (Option VarPlan)) (is_meant : ℕ → Bool) w
 
 module _ (g : Setting) (r : Runner) where
   -- the runner relies on the words of the variables that it uses
-  pub variable_relied : (v n i : ℕ) (found : VarPlan) → IsNear (places g r.core) v n found → r.footprint.uses v ≡ true → i < found.words → relied g r (0 + n + i) ≡ true
+  pub variable_relied : (v n i : ℕ) (found : VarPlan) → IsNear (places g r.core) v n found → r.footprint.uses v ≡ true → i < found.words →
+      relied g r (0 + n + i) ≡ true
   variable_relied v n i found near uses lt =
-      or_right (is_among_words r.stack temporary (0 + n + i)) (is_word_among 0 (places g r.core) r.footprint.uses (length (places g r.core)) (0 + n + i)) (word_among 0 (places g r.core) r.footprint.uses v n i found near uses lt)
+      or_right (is_among_words r.stack temporary (0 + n + i))
+      (is_word_among 0 (places g r.core) r.footprint.uses (length (places g r.core)) (0 + n + i))
+      (word_among 0 (places g r.core) r.footprint.uses v n i found near uses lt)
 
   -- the words of variables are held where both sides are the same
   pub holds_last : (words words' : List ℕ) (store store' : Store) →
-      ((v n i : ℕ) (found : VarPlan) → IsNear (places g r.core) v n found → r.footprint.uses v ≡ true → i < found.words → slice_get words' (0 + n + i) ≡ slice_get words (0 + n + i)) →
+      ((v n i : ℕ) (found : VarPlan) → IsNear (places g r.core) v n found → r.footprint.uses v ≡ true → i < found.words →
+      slice_get words' (0 + n + i) ≡ slice_get words (0 + n + i)) →
       ((v : ℕ) → r.footprint.uses v ≡ true → words_of store' v ≡ words_of store v) →
       Holds (places g r.core) r.footprint.uses 0 words store → Holds (places g r.core) r.footprint.uses 0 words' store'
   holds_last words words' store store' same same_store h = record {
@@ -83,16 +87,21 @@ module _ (g : Setting) (r : Runner) where
   -- the store's words, and the temporary ones
   pub store_kept : (z y : ThreadView) → Rely g r z y → HoldsStore g r z → HoldsStore g r y
   store_kept z y k h = record {
-    holds = holds_last z.core.words y.core.words z.world.store y.world.store (λ v n i found near uses lt. k.words (0 + n + i) (variable_relied v n i found near uses lt)) k.store h.holds;
+    holds = holds_last z.core.words y.core.words z.world.store y.world.store
+        (λ v n i found near uses lt. k.words (0 + n + i) (variable_relied v n i found near uses lt)) k.store h.holds;
     room = room_kept (relied g r) r.stack (stack_relied g r) z.core.words y.core.words h.room k.words;
   }
 
   -- ports stand where they are the same
-  pub ports_last : (z y : ThreadView) → ((p : ℕ) (listed : PortUse) → IsPort g r p listed → slice_get y.core.ports (port_place g r p) ≡ slice_get z.core.ports (port_place g r p)) → PortsStand g r z → PortsStand g r y
+  pub ports_last : (z y : ThreadView) →
+      ((p : ℕ) (listed : PortUse) → IsPort g r p listed →
+      slice_get y.core.ports (port_place g r p) ≡ slice_get z.core.ports (port_place g r p)) → PortsStand g r z → PortsStand g r y
   ports_last z y same h = λ p listed is. let s = h p listed is in record { port = s.port; there = same p listed is ∙ s.there; declared = s.declared }
 
   -- a branch runs where it is the same
-  pub runs_kept : (z y : ThreadView) (branch : Branch) (items : List Item) → slice_get y.world.branches r.branch ≡ slice_get z.world.branches r.branch → Runs z.world r.branch branch items → Runs y.world r.branch branch items
+  pub runs_kept : (z y : ThreadView) (branch : Branch) (items : List Item) →
+      slice_get y.world.branches r.branch ≡ slice_get z.world.branches r.branch → Runs z.world r.branch branch items →
+      Runs y.world r.branch branch items
   runs_kept z y branch items same h = record { known = same ∙ h.known; running = h.running; items_are = h.items_are }
 
   -- all that the runner has
@@ -168,14 +177,18 @@ module _ (g : Setting) (r : Runner) where
   -- What the runner itself leaves on its way. Its temporary words are there still, as the code that it runs says.
 
   -- the store's words
-  pub store_since : (laid : IsLaidOut g r) (stays : Res → Type 0) (z y : ThreadView) → Since g r (IsApart r.stack) stays z y → r.stack + temporary ≤ length y.core.words → HoldsStore g r z → HoldsStore g r y
+  pub store_since : (laid : IsLaidOut g r) (stays : Res → Type 0) (z y : ThreadView) → Since g r (IsApart r.stack) stays z y →
+      r.stack + temporary ≤ length y.core.words → HoldsStore g r z → HoldsStore g r y
   store_since laid stays z y s room h = record {
-    holds = holds_last z.core.words y.core.words z.world.store y.world.store (λ v n i found near uses lt. s.words (0 + n + i) (variable_relied v n i found near uses lt) (laid.frame.apart v n i found near lt)) s.store h.holds;
+    holds = holds_last z.core.words y.core.words z.world.store y.world.store
+        (λ v n i found near uses lt. s.words (0 + n + i) (variable_relied v n i found near uses lt)
+        (laid.frame.apart v n i found near lt)) s.store h.holds;
     room = room;
   }
 
   -- all that it has, where its ports stay
-  pub has_since : (laid : IsLaidOut g r) (items : List Item) (z y : ThreadView) → Since g r (IsApart r.stack) any_part z y → r.stack + temporary ≤ length y.core.words → Has g r items z → Has g r items y
+  pub has_since : (laid : IsLaidOut g r) (items : List Item) (z y : ThreadView) → Since g r (IsApart r.stack) any_part z y →
+      r.stack + temporary ≤ length y.core.words → Has g r items z → Has g r items y
   has_since laid items z y s room h = record {
     branch = h.branch;
     runs = runs_kept z y h.branch items s.branch h.runs;
@@ -185,14 +198,16 @@ module _ (g : Setting) (r : Runner) where
   }
 
   -- the ports, some of which may have been set
-  pub declared_since : (leaves : ℕ → Type 0) (stays : Res → Type 0) (z y : ThreadView) → Since g r leaves stays z y → PortsStand g r z → PortsStand g r y
+  pub declared_since : (leaves : ℕ → Type 0) (stays : Res → Type 0) (z y : ThreadView) → Since g r leaves stays z y → PortsStand g r z →
+      PortsStand g r y
   declared_since leaves stays z y s h = λ p listed is.
       let old = h p listed is in
       let now = s.declared p listed old.port is old.there in
       record { port = now.0; there = now.1; declared = now.2 ∙ old.declared }
 
   -- all that it has, where some of its ports may have been set
-  pub has_since_port : (laid : IsLaidOut g r) (stays : Res → Type 0) (items : List Item) (z y : ThreadView) → Since g r (IsApart r.stack) stays z y → Has g r items z → Has g r items y
+  pub has_since_port : (laid : IsLaidOut g r) (stays : Res → Type 0) (items : List Item) (z y : ThreadView) →
+      Since g r (IsApart r.stack) stays z y → Has g r items z → Has g r items y
   has_since_port laid stays items z y s h = record {
     branch = h.branch;
     runs = runs_kept z y h.branch items s.branch h.runs;
@@ -204,7 +219,8 @@ module _ (g : Setting) (r : Runner) where
   -- What code asks for, where the runner's thread is at it.
 
   -- room for temporary words
-  pub room_of : (laid : IsLaidOut g r) (z : ThreadView) (regs : Regs) → HasBases g r regs → HoldsStore g r z → HasRoom (relied g r) r.stack regs z.core.words
+  pub room_of : (laid : IsLaidOut g r) (z : ThreadView) (regs : Regs) → HasBases g r regs → HoldsStore g r z →
+      HasRoom (relied g r) r.stack regs z.core.words
   room_of laid z regs bases h = record { sp_is = bases.stack; small = laid.small; within = h.room; relied_on = stack_relied g r }
 
   -- the thread runs there
@@ -225,15 +241,19 @@ module _ (g : Setting) (r : Runner) where
   place_seen laid p h = seen laid (λ b. HasPlace (plan_in (g.plans r.core) b.plan).vars r.footprint.uses p) h
 
   -- an expression's words stand by the plan
-  pub laid_at : (laid : IsLaidOut g r) (z : ThreadView) (regs : Regs) (x : kernel.Expression) → Uses g r x → HasBases g r regs → HoldsStore g r z → IsLaid (plan g r).vars (relied g r) r.stack regs.dp z.core.words z.world.store x
+  pub laid_at : (laid : IsLaidOut g r) (z : ThreadView) (regs : Regs) (x : kernel.Expression) → Uses g r x → HasBases g r regs →
+      HoldsStore g r z → IsLaid (plan g r).vars (relied g r) r.stack regs.dp z.core.words z.world.store x
   laid_at laid z regs x uses bases h =
       subst (λ d. IsLaid (plan g r).vars (relied g r) r.stack d z.core.words z.world.store x) (sym bases.base)
       (unseen laid (λ b. IsLaid (plan_in (g.plans r.core) b.plan).vars (relied g r) r.stack (4 * b.base) z.core.words z.world.store x)
-      (framed_laid (places g r.core) (relied g r) r.footprint.uses r.stack 0 laid.frame z.core.words z.world.store h.holds x (uses_seen laid x uses)))
+      (framed_laid (places g r.core) (relied g r) r.footprint.uses r.stack 0 laid.frame z.core.words z.world.store h.holds x
+      (uses_seen laid x uses)))
 
   -- and so does a place
-  pub place_laid_at : (laid : IsLaidOut g r) (z : ThreadView) (regs : Regs) (p : kernel.Place) → UsesAt g r p → HasBases g r regs → HoldsStore g r z → PlaceIsLaid (plan g r).vars (relied g r) r.stack regs.dp z.core.words z.world.store p
+  pub place_laid_at : (laid : IsLaidOut g r) (z : ThreadView) (regs : Regs) (p : kernel.Place) → UsesAt g r p → HasBases g r regs →
+      HoldsStore g r z → PlaceIsLaid (plan g r).vars (relied g r) r.stack regs.dp z.core.words z.world.store p
   place_laid_at laid z regs p uses bases h =
       subst (λ d. PlaceIsLaid (plan g r).vars (relied g r) r.stack d z.core.words z.world.store p) (sym bases.base)
       (unseen laid (λ b. PlaceIsLaid (plan_in (g.plans r.core) b.plan).vars (relied g r) r.stack (4 * b.base) z.core.words z.world.store p)
-      (framed_place (places g r.core) (relied g r) r.footprint.uses r.stack 0 laid.frame z.core.words z.world.store h.holds p (place_seen laid p uses)))
+      (framed_place (places g r.core) (relied g r) r.footprint.uses r.stack 0 laid.frame z.core.words z.world.store h.holds p
+      (place_seen laid p uses)))

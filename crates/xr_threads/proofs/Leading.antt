@@ -22,7 +22,8 @@ none_waits [] h = refl
 none_waits (p ∷ ps) h = absurd h
 
 -- where a thread rests doesn't depend on what it has in hand
-pub rest_with : (g : Setting) (r : Runner) (items : List Item) (j : ℕ) (z : ThreadView) (hand : Option Hand) → Rest g r items j z → Rest g r items j (record z { hand = hand })
+pub rest_with : (g : Setting) (r : Runner) (items : List Item) (j : ℕ) (z : ThreadView) (hand : Option Hand) → Rest g r items j z →
+    Rest g r items j (record z { hand = hand })
 rest_with g r items j z hand h = record {
   pc = h.pc;
   regs = h.regs;
@@ -45,7 +46,8 @@ module _ (g : Setting) (r : Runner) (laid : IsLaidOut g r) (core : r.core < 4) w
   last_at pc j alone h = subst (λ ps. EndAt (plan g r) (code g r) r.tie ps pc j) alone h
 
   -- from the code of items whose first one has an instruction of its own
-  pub rest_leads : (items : List Item) (j : ℕ) (z : ThreadView) → Rest g r items j z → IsOwn r.parents items → FirstIsSided g r items → z.hand ≡ first_hand items → IsOnItsWay g r (j + cost g r) z
+  pub rest_leads : (items : List Item) (j : ℕ) (z : ThreadView) → Rest g r items j z → IsOwn r.parents items → FirstIsSided g r items →
+      z.hand ≡ first_hand items → IsOnItsWay g r (j + cost g r) z
   rest_leads [] j z h own sided is = absurd h.stands.1
   rest_leads (does t ∷ rest) j z h own sided is =
       let c = h.stands.1 in (
@@ -53,7 +55,8 @@ module _ (g : Setting) (r : Runner) (laid : IsLaidOut g r) (core : r.core < 4) w
         c.further,
         (let sum = c.sum in omega arith),
         jumps_lead g r c.here (cost g r) c.further z h.pc c.index h.regs (does t ∷ rest) c.jumps h.here h.has (λ y here has same.
-            statement_leads g r core t rest own rest h.stands.0 c.index c.stands.0 c.further y h.regs laid c.stands.1 h.fits.0 sided c.stands.2 h.fits.1 has here h.bases (same ∙ is)),
+            statement_leads g r core t rest own rest h.stands.0 c.index c.stands.0 c.further y h.regs laid c.stands.1 h.fits.0 sided
+            c.stands.2 h.fits.1 has here h.bases (same ∙ is)),
       )
   rest_leads (ends ∷ rest) j z h own sided is =
       let c = h.stands.1 in
@@ -79,5 +82,6 @@ module _ (g : Setting) (r : Runner) (laid : IsLaidOut g r) (core : r.core < 4) w
   rest_leads (fixed i v counter ∷ rest) j z h own sided is = absurd h.stands.1.stands
 
   -- the same with what it has to have in hand for that item
-  pub settled_leads : (items : List Item) (j : ℕ) (z : ThreadView) → Rest g r items j z → IsOwn r.parents items → FirstIsSided g r items → IsOnItsWay g r (j + cost g r) (record z { hand = first_hand items })
+  pub settled_leads : (items : List Item) (j : ℕ) (z : ThreadView) → Rest g r items j z → IsOwn r.parents items → FirstIsSided g r items →
+      IsOnItsWay g r (j + cost g r) (record z { hand = first_hand items })
   settled_leads items j z h own sided = rest_leads items j (record z { hand = first_hand items }) (rest_with g r items j z (first_hand items) h) own sided refl

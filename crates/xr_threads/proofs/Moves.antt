@@ -42,17 +42,19 @@ use Rattle.xl_expr.specs.ResourceParts.{OtherPartsStay}
 pub record IsSameButEnds (e f : CoreState) : Type 0 where
   pub is : f ≡ record e { ends = f.ends }
 
--- what the machine is behind an event, or where there was none: core c was a and is b, and of the others no more has changed than their channel ends; what is on
--- links is told elsewhere
+-- what the machine is behind an event, or where there was none: core c was a and is b, and of the others no more has changed than their
+-- channel ends; what is on links is told elsewhere
 pub record HasStepped (w w' : Watched) (c : ℕ) (a b : CoreState) : Type 0 where
   pub was : slice_get w.machine.cores c ≡ Some a
   pub is : slice_get w'.machine.cores c ≡ Some b
-  pub others : (d : ℕ) (e : CoreState) → d ≢ c → slice_get w.machine.cores d ≡ Some e → (f : CoreState) × (slice_get w'.machine.cores d ≡ Some f) × IsSameButEnds e f
+  pub others : (d : ℕ) (e : CoreState) → d ≢ c → slice_get w.machine.cores d ≡ Some e →
+      (f : CoreState) × (slice_get w'.machine.cores d ≡ Some f) × IsSameButEnds e f
   pub as_many : length w'.machine.cores ≡ length w.machine.cores
   pub sizes : sizes_of b ≡ sizes_of a
 
 -- another core that has stayed
-pub other_same : (w w' : Watched) (d : ℕ) (e : CoreState) → slice_get w'.machine.cores d ≡ slice_get w.machine.cores d → slice_get w.machine.cores d ≡ Some e → (f : CoreState) × (slice_get w'.machine.cores d ≡ Some f) × IsSameButEnds e f
+pub other_same : (w w' : Watched) (d : ℕ) (e : CoreState) → slice_get w'.machine.cores d ≡ slice_get w.machine.cores d →
+    slice_get w.machine.cores d ≡ Some e → (f : CoreState) × (slice_get w'.machine.cores d ≡ Some f) × IsSameButEnds e f
 other_same w w' d e same at = (e, same ∙ at, record { is = refl })
 
 -- Of some threads of the core it is shown how they stand; the others have the roles that they had, and what their runners stand on is kept.
@@ -90,7 +92,11 @@ pub record IsNextStanding
   pub made : (n : ℕ) (branch : Branch) → slice_get y.branches n ≡ Some branch → has_ended branch.mode ≡ false → IsMade (length g.program.roots) y.branches n
 
 -- how a thread stands that has the role that it had, where what its runner stands on is kept
-role_still : (g : Setting) (rests rests' : Bool) (a b : CoreState) (x y : World) (life life' : Life) (actions more : ℕ → ℕ) (role : Role) → (rests ≡ true → rests' ≡ true) → ((s : Runner) (hand : Option Hand) → role ≡ used_by s hand → Rely g s (record { core = a; world = x; hand = hand }) (record { core = b; world = y; hand = hand })) → life'.steps ≡ life.steps → ((f : ℕ) → actions f ≤ more f) → Stands g rests a x life actions role → Stands g rests' b y life' more role
+role_still : (g : Setting) (rests rests' : Bool) (a b : CoreState) (x y : World) (life life' : Life) (actions more : ℕ → ℕ)
+    (role : Role) → (rests ≡ true → rests' ≡ true) →
+    ((s : Runner) (hand : Option Hand) → role ≡ used_by s hand →
+    Rely g s (record { core = a; world = x; hand = hand }) (record { core = b; world = y; hand = hand })) → life'.steps ≡ life.steps →
+    ((f : ℕ) → actions f ≤ more f) → Stands g rests a x life actions role → Stands g rests' b y life' more role
 role_still g rests rests' a b x y life life' actions more unused may k same le h = h
 role_still g rests rests' a b x y life life' actions more (got_by t) may k same le h = same ∙ h
 role_still g rests rests' a b x y life life' actions more (used_by s hand) may k same le h = runner_still g s rests rests' hand a b x y life life' actions more may (k s hand refl) same le h
@@ -108,7 +114,8 @@ used_still who who' d e same h = record {
 
 -- Where a core has other ends, what threads stand on is as it was.
 
-kept_ends : (g : Setting) (s : Runner) (z : ThreadView) (e f : CoreState) (y : World) (hand : Option Hand) → IsSameButEnds e f → Rely g s z (record { core = e; world = y; hand = hand }) → Rely g s z (record { core = f; world = y; hand = hand })
+kept_ends : (g : Setting) (s : Runner) (z : ThreadView) (e f : CoreState) (y : World) (hand : Option Hand) → IsSameButEnds e f →
+    Rely g s z (record { core = e; world = y; hand = hand }) → Rely g s z (record { core = f; world = y; hand = hand })
 kept_ends g s z e f y hand same k = subst (λ b. Rely g s z (record { core = b; world = y; hand = hand })) (sym same.is) (record {
   thread = k.thread;
   words = k.words;
@@ -126,19 +133,30 @@ kept_ends g s z e f y hand same k = subst (λ b. Rely g s z (record { core = b; 
   where
     spare_ends : (hand : Option Hand) → SpareFor hand e → SpareFor hand (record e { ends = f.ends })
     spare_ends None h = tt
-    spare_ends (Some hand) h = record { threads = h.threads; sync = h.sync; few_threads = h.few_threads; few_syncs = h.few_syncs; no_events = h.no_events; untied = h.untied }
+    spare_ends (Some hand) h = record {
+      threads = h.threads;
+      sync = h.sync;
+      few_threads = h.few_threads;
+      few_syncs = h.few_syncs;
+      no_events = h.no_events;
+      untied = h.untied;
+    }
 
 used_ends : (who : Roles) (d : ℕ) (e f : CoreState) → IsSameButEnds e f → AreUsedSo who d e → AreUsedSo who d f
-used_ends who d e f same h = subst (AreUsedSo who d) (sym same.is) (record { threads = h.threads; syncs = h.syncs; unused = h.unused; got = h.got; taken = h.taken; owned = h.owned })
+used_ends who d e f same h = subst (AreUsedSo who d) (sym same.is)
+    (record { threads = h.threads; syncs = h.syncs; unused = h.unused; got = h.got; taken = h.taken; owned = h.owned })
 
-loose_ends : (g : Setting) (who : Roles) (d : ℕ) (e f : CoreState) (y : World) → IsSameButEnds e f → AreLoose g who d e y → AreLoose g who d f y
+loose_ends : (g : Setting) (who : Roles) (d : ℕ) (e f : CoreState) (y : World) → IsSameButEnds e f → AreLoose g who d e y →
+    AreLoose g who d f y
 loose_ends g who d e f y same h = subst (λ b. AreLoose g who d b y) (sym same.is) (record {
   variables = h.variables;
   ports = λ p listed is nobody. let k = h.ports p listed is nobody in record { port = k.port; there = k.there; declared = k.declared };
 })
 
 -- a thread is inside a transfer on a channel of the program's
-pub channel_known : (g : Setting) (who : Roles) (m : Machine) (x : World) → AreWired g who m x → (d u : ℕ) (s : Runner) (hand : Option Hand) (transfer : Transfer) → who d u ≡ used_by s hand → s.transfer ≡ Some transfer → transfer.channel < length g.program.channels
+pub channel_known : (g : Setting) (who : Roles) (m : Machine) (x : World) → AreWired g who m x →
+    (d u : ℕ) (s : Runner) (hand : Option Hand) (transfer : Transfer) → who d u ≡ used_by s hand → s.transfer ≡ Some transfer →
+    transfer.channel < length g.program.channels
 channel_known g who m x wired d u s hand transfer is its =
     let k = wired.listed d u transfer.channel transfer.side (record { runner = s; hand = hand; runs = is; transfer = transfer; is = its; channel_is = refl; side_is = refl }) in
     line_known g.program k.0 transfer.channel k.1
@@ -162,7 +180,8 @@ moves g may_rest may_rest' who who' w w' x c a b moved piece y st step next =
       used = λ d e at.
           ⊎_elim
           (λ (h : d ≡ c). subst (λ k. AreUsedSo who' k e) (sym h) (subst (AreUsedSo who' c) (is_b d e h at) next.used))
-          (λ (ne : d ≢ c). let o = far d e ne at in used_ends who' d o.0 e o.2 (used_still who who' d o.0 (λ t. next.far_role d t ne) (st.used d o.0 o.1)))
+          (λ (ne : d ≢ c). let o = far d e ne at in used_ends who' d o.0 e o.2
+          (used_still who who' d o.0 (λ t. next.far_role d t ne) (st.used d o.0 o.1)))
           (cases_eq d c);
       threads = λ d t e at.
           ⊎_elim
@@ -202,7 +221,8 @@ moves g may_rest may_rest' who who' w w' x c a b moved piece y st step next =
     is_b d e h at = same_Some b e (sym step.is ∙ ap (slice_get w'.machine.cores) (sym h) ∙ at)
 
     -- and another one what it was, but for its ends
-    far : (d : ℕ) (f : CoreState) → d ≢ c → slice_get w'.machine.cores d ≡ Some f → (e : CoreState) × (slice_get w.machine.cores d ≡ Some e) × IsSameButEnds e f
+    far : (d : ℕ) (f : CoreState) → d ≢ c → slice_get w'.machine.cores d ≡ Some f →
+        (e : CoreState) × (slice_get w.machine.cores d ≡ Some e) × IsSameButEnds e f
     far d f ne at =
         let many = step.as_many in
         let within = slice_get_within w'.machine.cores d f at in
@@ -215,10 +235,14 @@ moves g may_rest may_rest' who who' w w' x c a b moved piece y st step next =
     not_less f = omega arith
 
     -- a thread of another core
-    there : (d t : ℕ) (e f : CoreState) → d ≢ c → slice_get w.machine.cores d ≡ Some e → IsSameButEnds e f → Stands g (may_rest' d t) f y (w'.lives d t) (told_by g.program g.stimulus x piece y).actions (who' d t)
+    there : (d t : ℕ) (e f : CoreState) → d ≢ c → slice_get w.machine.cores d ≡ Some e → IsSameButEnds e f →
+        Stands g (may_rest' d t) f y (w'.lives d t) (told_by g.program g.stimulus x piece y).actions (who' d t)
     there d t e f ne at same =
         subst (Stands g (may_rest' d t) f y (w'.lives d t) (told_by g.program g.stimulus x piece y).actions) (sym (next.far_role d t ne))
-        (role_still g (may_rest d t) (may_rest' d t) e f x.state y (w.lives d t) (w'.lives d t) x.actions (told_by g.program g.stimulus x piece y).actions (who d t) (next.far_rests d t ne) (λ s hand is. kept_ends g s (record { core = e; world = x.state; hand = hand }) e f y hand same (next.far_kept d t e s hand ne at is)) (next.far_steps d t ne) not_less (st.threads d t e at))
+        (role_still g (may_rest d t) (may_rest' d t) e f x.state y (w.lives d t) (w'.lives d t) x.actions
+        (told_by g.program g.stimulus x piece y).actions (who d t) (next.far_rests d t ne)
+        (λ s hand is. kept_ends g s (record { core = e; world = x.state; hand = hand }) e f y hand same
+        (next.far_kept d t e s hand ne at is)) (next.far_steps d t ne) not_less (st.threads d t e at))
 
     -- a thread of this core, by whether it is one of those that are shown
     by_moved : (t : ℕ) (m : Bool) → moved t ≡ m → Stands g (may_rest' c t) b y (w'.lives c t) (told_by g.program g.stimulus x piece y).actions (who' c t)
@@ -236,7 +260,8 @@ moves g may_rest may_rest' who who' w w' x c a b moved piece y st step next =
     alone_kept d u e s hand transfer at is its same =
         let works = works_of g s (may_rest d u) hand e x.state (w.lives d u) x.actions (subst (Stands g (may_rest d u) e x.state (w.lives d u) x.actions) is (st.threads d u e at)) in
         alone_behind transfer.channel transfer.side g x.state st.lawful
-        (channel_known g who w.machine x.state st.wired d u s hand transfer is its) s.branch works.branch works.branch works.known (st.alone d u s hand transfer is its)
+        (channel_known g who w.machine x.state st.wired d u s hand transfer is its) s.branch works.branch works.branch works.known
+        (st.alone d u s hand transfer is its)
         piece y next.acted (same ∙ works.known)
         (λ over. none_some (sym (works.done over) ∙ its))
       where
@@ -332,7 +357,9 @@ module _ {may_rest : (core thread : ℕ) → Bool} (moment : Moment may_rest) wh
   crew_at d e at = crew_of g first who may_rest w x d e is st at
 
   -- nothing has happened yet
-  pub kept_now : (d u : ℕ) (e : CoreState) (s : Runner) (other : Option Hand) → slice_get w.machine.cores d ≡ Some e → who d u ≡ used_by s other → Rely g s (record { core = e; world = x.state; hand = other }) (record { core = e; world = x.state; hand = other })
+  pub kept_now : (d u : ℕ) (e : CoreState) (s : Runner) (other : Option Hand) → slice_get w.machine.cores d ≡ Some e →
+      who d u ≡ used_by s other → Rely g s (record { core = e; world = x.state; hand = other })
+      (record { core = e; world = x.state; hand = other })
   kept_now d u e s other at runs_s = record {
     thread = refl;
     words = λ k m. refl;
@@ -390,11 +417,13 @@ module _ {may_rest : (core thread : ℕ) → Bool} (moment : Moment may_rest) wh
         let s_thread = st.roles.thread c u s other runs_s in
         let works = works_at c u s other runs_s in
         let not_both : (c ≡ c) × (u ≡ t) → ⊥ = λ h. ne h.1 in
-        let apart = apart_of_runners g who x.state st.lawful st.roles is.lines c t u r s hand other runs_r runs_s ne (works_at c t r hand runs_r) works (laid_at c t r hand runs_r) (laid_at c u s other runs_s) in
+        let apart = apart_of_runners g who x.state st.lawful st.roles is.lines c t u r s hand other runs_r runs_s ne
+        (works_at c t r hand runs_r) works (laid_at c t r hand runs_r) (laid_at c u s other runs_s) in
         record {
           thread = effect.threads s.thread (ap moved s_thread ∙ still);
           words = λ k m. effect.words k (λ change. apart.words k m change);
-          resources = others_keep (IsMine g r) (IsMine g s) r.thread s.thread a b (λ e. ne (sym s_thread ∙ e ∙ st.roles.thread c t r hand runs_r)) apart.resources effect.resources;
+          resources = others_keep (IsMine g r) (IsMine g s) r.thread s.thread a b
+              (λ e. ne (sym s_thread ∙ e ∙ st.roles.thread c t r hand runs_r)) apart.resources effect.resources;
           branch = own_still c u s other not_both runs_s s.branch works.branch (inl refl) works.known;
           parents = parents_left c u s other not_both runs_s;
           store = store_left c u s other not_both runs_s;

@@ -171,7 +171,8 @@ module _ (g : Setting) (may_rest : (core thread : ℕ) → Bool) (who : Roles) (
         ])
 
   -- A silent step.
-  module _ (m' : Machine) (c t : ℕ) (y z : ThreadView) (at_a : slice_get w.machine.cores c ≡ Some y.core) (at_b : slice_get m'.cores c ≡ Some z.core) (r : Runner) (x' : Told (of_kernel g.program)) (goes : Goes g x x') where
+  module _ (m' : Machine) (c t : ℕ) (y z : ThreadView) (at_a : slice_get w.machine.cores c ≡ Some y.core)
+      (at_b : slice_get m'.cores c ≡ Some z.core) (r : Runner) (x' : Told (of_kernel g.program)) (goes : Goes g x x') where
     abbrev w'' : Watched
     w'' = record { machine = m'; lives = life_after w m' c t }
 

@@ -41,7 +41,9 @@ empty_yet items h none (opens held bs rest e is sum several none_held) =
     let zero_threads = ap length no_threads in
     (no_threads, omega (arith, all, zero_threads, several))
 
-module _ (g : Setting) (may_rest : (core thread : ℕ) → Bool) (who who' : Roles) (w : Watched) (m' : Machine) (x x' : Told (of_kernel g.program)) (st : Standing g may_rest who w x) (named : AreNamed g who w x) (goes : Goes g x x') (c t : ℕ) (y z : ThreadView) (at_a : slice_get w.machine.cores c ≡ Some y.core) (at_b : slice_get m'.cores c ≡ Some z.core) (r : Runner) where
+module _ (g : Setting) (may_rest : (core thread : ℕ) → Bool) (who who' : Roles) (w : Watched) (m' : Machine)
+    (x x' : Told (of_kernel g.program)) (st : Standing g may_rest who w x) (named : AreNamed g who w x) (goes : Goes g x x') (c t : ℕ)
+    (y z : ThreadView) (at_a : slice_get w.machine.cores c ≡ Some y.core) (at_b : slice_get m'.cores c ≡ Some z.core) (r : Runner) where
   abbrev w' : Watched
   w' = record { machine = m'; lives = life_after w m' c t }
 

@@ -49,7 +49,8 @@ module _ (g : Setting) (r : Runner) (laid : IsLaidOut g r) (o : kernel.Output) (
       ap (outputs_to s o) to_channel ∙ ap (λ d. with_value s d (outputs_word s c o.pos)) is
 
   -- at the first step of the protocol
-  offers_there : (z y q : ThreadView) (regs : Regs) (v : ℕ) → HasBases g r regs → Rely g r y q → q.hand ≡ None → Has g r (item ∷ rest) q → eval q.world.store o.value ≡ word v →
+  offers_there : (z y q : ThreadView) (regs : Regs) (v : ℕ) → HasBases g r regs → Rely g r y q → q.hand ≡ None → Has g r (item ∷ rest) q →
+      eval q.world.store o.value ≡ word v →
       AtProtocol (home g r) (relied g r) r.stack r.thread (end_place g r c side) (running r.tie pc regs) z.core.words o.pos
       (output_acts v true) (EndsAt pc') y.core → Communicates g r (puts_out o v) j q
   offers_there z y q regs v bases kept no_hand has is at = record {
@@ -70,11 +71,21 @@ module _ (g : Setting) (r : Runner) (laid : IsLaidOut g r) (o : kernel.Output) (
 
       steps : TakesSteps g r c side o.pos (output_acts v true) (IsBehind g r rest j) at.index at.regs
       steps =
-          let all = all_from (home g r) r.thread (end_place g r c side) r.tie o.pos pc at.index regs at.regs (output_acts v true) (EndsAt pc') at.index at.regs at.steps in
-          (all.0, (all.1.0, (all.1.1.0, behind_of_items g r rest exits _ j at.regs bases' (subst (λ p. ItemsFrom g r rest exits p j) (sym all.1.1.1) behind))))
+          let all = all_from (home g r) r.thread (end_place g r c side) r.tie o.pos pc at.index regs at.regs (output_acts v true) (EndsAt pc') at.index at.regs at.steps in (
+            all.0,
+            (
+              all.1.0,
+              (
+                all.1.1.0,
+                behind_of_items g r rest exits _ j at.regs bases'
+                    (subst (λ p. ItemsFrom g r rest exits p j) (sym all.1.1.1) behind),
+              ),
+            ),
+          )
 
   -- the turn is next, by the value
-  output_turns : (z : ThreadView) (regs : Regs) → HasBases g r regs → z.hand ≡ None → Has g r (item ∷ rest) z → (v : Value) → eval z.world.store o.value ≡ v → (y : ThreadView) →
+  output_turns : (z : ThreadView) (regs : Regs) → HasBases g r regs → z.hand ≡ None → Has g r (item ∷ rest) z → (v : Value) →
+      eval z.world.store o.value ≡ v → (y : ThreadView) →
       OutputReaches (home g r) (relied g r) r.stack r.thread (end_place g r c side) (running r.tie pc regs) z.core.words true o.pos pc' v y.core →
       Since g r (IsApart r.stack) any_part z y → Turns g r j y
   output_turns z regs bases no_hand has v is y reaches since q k = by v is reaches
@@ -95,7 +106,8 @@ module _ (g : Setting) (r : Runner) (laid : IsLaidOut g r) (o : kernel.Output) (
           turn.errs (value_errs g r q item rest kind pos (traps q.core (core_kept g r k)) has_q (since'.hand ∙ no_hand) (output_step q.world has_q.branch (error kind pos) (still (error kind pos) e)))
 
 -- from its code to the first step
-pub offer_leads : (g : Setting) (r : Runner) (o : kernel.Output) (c : ℕ) → o.resource ≡ Chan c → IsChannel g r c → (rest : List Item) (exits : List Exit) (pc pc' j : ℕ) (z : ThreadView) (regs : Regs) →
+pub offer_leads : (g : Setting) (r : Runner) (o : kernel.Output) (c : ℕ) → o.resource ≡ Chan c → IsChannel g r c →
+    (rest : List Item) (exits : List Exit) (pc pc' j : ℕ) (z : ThreadView) (regs : Regs) →
     IsLaidOut g r → ByEndAt (code g r) (plan g r) (λ end. SendsValue (plan g r) end o.value true o.pos) (end_at (plan g r).channels r.sides c) pc pc' → Fits g r (kernel.output o) →
     (side : Side) × (slice_index_or r.sides c None ≡ Some side) → ItemsFrom g r rest exits pc' j → ItemsFit g r rest →
     Has g r (does (kernel.output o) ∷ rest) z → IsAt g r z pc regs → HasBases g r regs → z.hand ≡ None → Leads g r (cost g r) j z
@@ -106,7 +118,8 @@ offer_leads g r o c to_channel used rest exits pc pc' j z regs laid piece (fits,
     let v = eval z.world.store o.value in
     let most = 8 * nodes o.value + 3 in
     let way = piece'.so.by (home g r) (relied g r) r.stack r.thread (end_place g r c side) (running r.tie pc regs) z.world.store z.core piece'.stand (runs_at g r z pc regs here)
-    (room_of g r laid z regs bases has.holds) (laid_at g r laid z regs o.value fits.value bases has.holds) (end_stands g r c side z named regs bases) in
+    (room_of g r laid z regs bases has.holds) (laid_at g r laid z regs o.value fits.value bases has.holds)
+    (end_stands g r c side z named regs bases) in
     let outcome = OutputReaches (home g r) (relied g r) r.stack r.thread (end_place g r c side) (running r.tie pc regs) z.core.words true o.pos at_end v in
     let behind' = subst (λ p. ItemsFrom g r rest exits p j) piece'.end behind in
     let le : most ≤ cost g r = let a = nodes_are o.value in omega (arith, counted, a) in

@@ -16,7 +16,8 @@ use Rattle.xr_threads.proofs.Identifiers.{EndIsNamed}
 
 module _ (g : Setting) (r : Runner) (c : ℕ) (side : Side) (z : ThreadView) (named : EndIsNamed g r c side z) where
   -- its identifier is where the code looks for it
-  pub end_stands : (regs : Regs) → HasBases g r regs → EndStands (home g r) (relied g r) r.stack regs.dp (plan g r) named.end (end_place g r c side) z.core.words
+  pub end_stands : (regs : Regs) → HasBases g r regs →
+      EndStands (home g r) (relied g r) r.stack regs.dp (plan g r) named.end (end_place g r c side) z.core.words
   end_stands regs bases =
       let name = end_name r.core (end_place g r c side) in
       record {
@@ -31,4 +32,5 @@ module _ (g : Setting) (r : Runner) (c : ℕ) (side : Side) (z : ThreadView) (na
   pub on_end : slice_index_or r.sides c None ≡ Some side → (P : (end : ℕ) → ℕ → List Line → Type 0) (pc pc' : ℕ) →
       ByEndAt (code g r) (plan g r) P (end_at (plan g r).channels r.sides c) pc pc' → LinesAt (code g r) (P named.end) pc pc'
   on_end stands_in P pc pc' h =
-      subst (λ end. ByEndAt (code g r) (plan g r) P end pc pc') (ap (end_of_side (slice_get (plan g r).channels c)) stands_in ∙ named.is_end) h
+      subst (λ end. ByEndAt (code g r) (plan g r) P end pc pc')
+      (ap (end_of_side (slice_get (plan g r).channels c)) stands_in ∙ named.is_end) h

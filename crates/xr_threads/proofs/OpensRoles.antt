@@ -208,17 +208,37 @@ module _ (g : Setting) (who : Roles) (c t : ℕ) (roles : AreRoles g who) (r : R
 
     -- what each field says, by where a role is
 
-    core_by : (d u : ℕ) (s : Runner) (other : Option Hand) → opens d u ≡ used_by s other → Place d u → (s.core ≡ d) × (d < 4) × (s.thread ≡ u) × (s.block ≡ outside) × (s.stack ≡ temporary_of g.program d u)
+    core_by : (d u : ℕ) (s : Runner) (other : Option Hand) → opens d u ≡ used_by s other → Place d u →
+        (s.core ≡ d) × (d < 4) × (s.thread ≡ u) × (s.block ≡ outside) × (s.stack ≡ temporary_of g.program d u)
     core_by d u s other is (at_own e f now) =
         let w = was_own d u e f in
-        subst (λ (i : Runner). (i.core ≡ d) × (d < 4) × (i.thread ≡ u) × (i.block ≡ outside) × (i.stack ≡ temporary_of g.program d u)) (same_runner own s None other (sym now ∙ is))
-        (roles.core d u r (Some h) w, roles.there d u r (Some h) w, roles.thread d u r (Some h) w, roles.block d u r (Some h) w, roles.stack d u r (Some h) w)
+        subst (λ (i : Runner). (i.core ≡ d) × (d < 4) × (i.thread ≡ u) × (i.block ≡ outside) × (i.stack ≡ temporary_of g.program d u))
+        (same_runner own s None other (sym now ∙ is)) (
+          roles.core d u r (Some h) w,
+          roles.there d u r (Some h) w,
+          roles.thread d u r (Some h) w,
+          roles.block d u r (Some h) w,
+          roles.stack d u r (Some h) w,
+        )
     core_by d u s other is (at_kid i e among now old) =
-        subst (λ (q : Runner). (q.core ≡ d) × (d < 4) × (q.thread ≡ u) × (q.block ≡ outside) × (q.stack ≡ temporary_of g.program d u)) (same_runner (kid i u) s None other (sym now ∙ is))
-        (roles.core c t r (Some h) was ∙ sym e, subst (λ k. k < 4) (sym e) (roles.there c t r (Some h) was), refl, roles.block c t r (Some h) was, ap (λ k. temporary_of g.program k u) (sym e))
+        subst (λ (q : Runner). (q.core ≡ d) × (d < 4) × (q.thread ≡ u) × (q.block ≡ outside) × (q.stack ≡ temporary_of g.program d u))
+        (same_runner (kid i u) s None other (sym now ∙ is)) (
+          roles.core c t r (Some h) was ∙ sym e,
+          subst (λ k. k < 4) (sym e) (roles.there c t r (Some h) was),
+          refl,
+          roles.block c t r
+              (Some h) was,
+          ap (λ k. temporary_of g.program k u) (sym e),
+        )
     core_by d u s other is (elsewhere same not_own no_kid) =
-        let w = sym same ∙ is in
-        (roles.core d u s other w, roles.there d u s other w, roles.thread d u s other w, roles.block d u s other w, roles.stack d u s other w)
+        let w = sym same ∙ is in (
+          roles.core d u s other w,
+          roles.there d u s other w,
+          roles.thread d u s other w,
+          roles.block d u s other w,
+          roles.stack
+              d u s other w,
+        )
 
     started_by : (d u : ℕ) (s : Runner) (other : Option Hand) → opens d u ≡ used_by s other → Place d u → outermost s.branch s.parents ≡ s.family
     started_by d u s other is (at_own e f now) =

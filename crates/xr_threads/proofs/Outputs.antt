@@ -104,7 +104,8 @@ module _ (g : Setting) (b : ℕ) (x : World) (branch : Branch) (t : kernel.State
 
 module _ (g : Setting) (r : Runner) where
   -- the words of a time's variables stand where the plan has them
-  time_laid : (laid : IsLaidOut g r) (z : ThreadView) (regs : Regs) (time : Option kernel.Expression) → UsesSome g r time → HasBases g r regs → turn.HoldsStore g r z → TimeIsLaid (plan g r).vars (relied g r) r.stack regs.dp z.core.words z.world.store time
+  time_laid : (laid : IsLaidOut g r) (z : ThreadView) (regs : Regs) (time : Option kernel.Expression) → UsesSome g r time →
+      HasBases g r regs → turn.HoldsStore g r z → TimeIsLaid (plan g r).vars (relied g r) r.stack regs.dp z.core.words z.world.store time
   time_laid laid z regs None uses bases h = tt
   time_laid laid z regs (Some x) uses bases h = laid_at g r laid z regs x uses bases h
 
@@ -133,7 +134,9 @@ module _ (g : Setting) (r : Runner) (laid : IsLaidOut g r) (o : kernel.Output) (
       ∙ ap (λ d. with_timing (Step x branch) d (λ when. with_word_of (Step x branch) o.value (drives (Step x branch) o p when))) (timing_is x.store o.time)
 
   -- the thread is at the end of its way
-  module _ (z : ThreadView) (has : Has g r (Item' ∷ rest) z) (no_hand : z.hand ≡ None) (x : ThreadView) (since : Since g r (IsApart r.stack) (apart_from (port_alone (port_place g r p))) z x) (clock : slice_get x.world.clocks r.core ≡ Some x.core.clock) where
+  module _ (z : ThreadView) (has : Has g r (Item' ∷ rest) z) (no_hand : z.hand ≡ None) (x : ThreadView)
+      (since : Since g r (IsApart r.stack) (apart_from (port_alone (port_place g r p))) z x)
+      (clock : slice_get x.world.clocks r.core ≡ Some x.core.clock) where
     abbrev place : ℕ
     place = port_place g r p
 
@@ -220,8 +223,12 @@ module _ (g : Setting) (r : Runner) (laid : IsLaidOut g r) (o : kernel.Output) (
         step_by due h =
             item_acts g.program g.stimulus r.branch x.world branch Item' rest runs
             ∙ step_is (word v) is
-            ∙ ap (λ b. only_if b (with_record (source.goes_to st (stamping o.resource o.stamp (counter (slice_index x.world.clocks branch.core)) rest)) (output_record st p v))) (due_by time ∙ h)
-            ∙ ap (λ s. only_if due (with_record (source.goes_to st (stamping o.resource s (counter (slice_index x.world.clocks branch.core)) rest)) (output_record st p v))) no_stamp
+            ∙ ap (λ b. only_if b (with_record
+            (source.goes_to st (stamping o.resource o.stamp (counter (slice_index x.world.clocks branch.core)) rest))
+            (output_record st p v))) (due_by time ∙ h)
+            ∙ ap (λ s. only_if due (with_record
+            (source.goes_to st (stamping o.resource s (counter (slice_index x.world.clocks branch.core)) rest))
+            (output_record st p v))) no_stamp
             ∙ ap (λ d. only_if due (with_record (with_items x.world r.branch branch rest) d)) record_is
           where
             id_is : identifier_in g.program.ports p ≡ port.decl.port
@@ -270,7 +277,8 @@ module _ (g : Setting) (r : Runner) (laid : IsLaidOut g r) (o : kernel.Output) (
               other : port_place g r q ≢ place → PortIs g r q listed (record { core = left; world = world; hand = None })
               other ne = record {
                 port = was.port;
-                there = get_set_other x.core.ports place (port_place g r q) gone ne ∙ ports_since g r (IsApart r.stack) (apart_from (port_alone (port_place g r p))) z x since q listed mine (λ e. ne (ap res_number e)) ∙ was.there;
+                there = get_set_other x.core.ports place (port_place g r q) gone ne ∙ ports_since g r (IsApart r.stack)
+                    (apart_from (port_alone (port_place g r p))) z x since q listed mine (λ e. ne (ap res_number e)) ∙ was.there;
                 declared = was.declared;
               }
 
@@ -290,7 +298,8 @@ module _ (g : Setting) (r : Runner) (laid : IsLaidOut g r) (o : kernel.Output) (
                   words = λ n not_mine. refl;
                   sizes = refl;
                   resources = others_fewer _ _ _ _ (IsMine g r) (alone_mine g r p out.listed out.is)
-                      (others_of_port r.thread place x.core left (λ q n. get_set_other x.core.ports place q (moved_at (set_for time port) (counter x.core.clock)) n) refl refl);
+                      (others_of_port r.thread place x.core left
+                      (λ q n. get_set_other x.core.ports place q (moved_at (set_for time port) (counter x.core.clock)) n) refl refl);
                 };
                 roots = refl;
                 syncs = refl;
@@ -314,7 +323,8 @@ module _ (g : Setting) (r : Runner) (laid : IsLaidOut g r) (o : kernel.Output) (
                 rest = record {
                   pc = pc';
                   regs = w.regs;
-                  here = here_at rest (items_unwatched g r rest exits pc' j behind) (get_set_same x.core.threads r.thread (running r.tie w.index w.regs) (running r.tie pc' w.regs) w.here);
+                  here = here_at rest (items_unwatched g r rest exits pc' j behind)
+                      (get_set_same x.core.threads r.thread (running r.tie w.index w.regs) (running r.tie pc' w.regs) w.here);
                   bases = bases_worked g r (syncs_of r.parents) regs w.regs w.others bases;
                   stands = items_stand g r rest exits pc' j w.regs left behind;
                   fits = fit_rest;
@@ -337,7 +347,8 @@ module _ (g : Setting) (r : Runner) (laid : IsLaidOut g r) (o : kernel.Output) (
               by false h = turn.pauses (w.waits h) (cannot h)
 
   -- from the output's code
-  module _ (z : ThreadView) (has : Has g r (Item' ∷ rest) z) (exits : List Exit) (pc pc' j : ℕ) (regs : Regs) (here : IsAt g r z pc regs) (bases : HasBases g r regs) (no_hand : z.hand ≡ None) (behind : ItemsFrom g r rest exits pc' j) (fit_rest : ItemsFit g r rest) where
+  module _ (z : ThreadView) (has : Has g r (Item' ∷ rest) z) (exits : List Exit) (pc pc' j : ℕ) (regs : Regs) (here : IsAt g r z pc regs)
+      (bases : HasBases g r regs) (no_hand : z.hand ≡ None) (behind : ItemsFrom g r rest exits pc' j) (fit_rest : ItemsFit g r rest) where
     abbrev spot : ℕ
     spot = port_place g r p
 
@@ -360,12 +371,14 @@ module _ (g : Setting) (r : Runner) (laid : IsLaidOut g r) (o : kernel.Output) (
     still s k = since_kept g r (IsApart r.stack) (apart_from (port_alone spot)) s k
 
     -- what it comes to is its turn: by the value
-    value_turns : (time : Option ℕ) → option_map (eval store) o.time ≡ option_map word time → (value : Value) → eval store o.value ≡ value → (y : ThreadView) → AtValue time value y.core → Meanwhile y → Turns g r j y
+    value_turns : (time : Option ℕ) → option_map (eval store) o.time ≡ option_map word time → (value : Value) →
+        eval store o.value ≡ value → (y : ThreadView) → AtValue time value y.core → Meanwhile y → Turns g r j y
     value_turns time e (word v) f y h s = λ x k. out_turns z has no_hand x (still s k) k.clock time e v f exits pc pc' j regs bases behind fit_rest (h x.core (port_kept g r p out.listed out.is k))
     value_turns time e (error kind pos) f y h s = λ x k. turn.errs (value_errs z has no_hand x (still s k) k.clock time e kind pos f (h x.core (port_kept g r p out.listed out.is k)))
 
     -- and by the time, whose error comes first
-    turns : (time : Option Value) (value : Value) → option_map (eval store) o.time ≡ time → eval store o.value ≡ value → (y : ThreadView) → AtEnd time value y.core → Meanwhile y → Turns g r j y
+    turns : (time : Option Value) (value : Value) → option_map (eval store) o.time ≡ time → eval store o.value ≡ value →
+        (y : ThreadView) → AtEnd time value y.core → Meanwhile y → Turns g r j y
     turns None value e f y h s = value_turns None e value f y h s
     turns (Some (word t)) value e f y h s = value_turns (Some t) e value f y h s
     turns (Some (error kind pos)) value e f y h s = λ x k. turn.errs (time_errs z has no_hand x (still s k) k.clock kind pos e (h x.core (port_kept g r p out.listed out.is k)))
@@ -375,7 +388,8 @@ module _ (g : Setting) (r : Runner) (laid : IsLaidOut g r) (o : kernel.Output) (
     port_stands = record {
       name = name;
       name_is =
-          subst (λ place. ResourceIs (relied g r) r.stack regs.dp z.core.words place name) (sym (ap (resource_in (plan g r).ports (plan g r).timers) to_port ∙ its_name.planned))
+          subst (λ place. ResourceIs (relied g r) r.stack regs.dp z.core.words place name)
+          (sym (ap (resource_in (plan g r).ports (plan g r).timers) to_port ∙ its_name.planned))
           (subst (λ dp. IsIdentifier (relied g r) r.stack dp z.core.words its_name.at name) (sym bases.base) its_name.is);
       names = its_name.names;
       there = its.there;
@@ -389,11 +403,13 @@ module _ (g : Setting) (r : Runner) (laid : IsLaidOut g r) (o : kernel.Output) (
         its_name = port_named g r laid z p out.listed out.is
 
     -- where its code leads, the runner comes
-    comes : (n : ℕ) → WithinParts (home g r) (relied g r) (IsApart r.stack) (port_alone spot) r.thread (AtEnd (option_map (eval store) o.time) (eval store o.value)) n z.core → turn.Leads g r n j z
+    comes : (n : ℕ) → WithinParts (home g r) (relied g r) (IsApart r.stack) (port_alone spot) r.thread
+        (AtEnd (option_map (eval store) o.time) (eval store o.value)) n z.core → turn.Leads g r n j z
     comes n way =
         leads_as g r (λ y. AtEnd (option_map (eval store) o.time) (eval store o.value) y.core × Meanwhile y) (Turns g r j) n z
         (λ y h. turns (option_map (eval store) o.time) (eval store o.value) refl refl y h.0 h.1)
-        (arrives_with g r (IsApart r.stack) (apart_of_changes g r) (port_alone (port_place g r p)) (alone_mine g r p out.listed out.is) (AtEnd (option_map (eval store) o.time) (eval store o.value)) n z (at_runs g r z pc regs here) way)
+        (arrives_with g r (IsApart r.stack) (apart_of_changes g r) (port_alone (port_place g r p)) (alone_mine g r p out.listed out.is)
+        (AtEnd (option_map (eval store) o.time) (eval store o.value)) n z (at_runs g r z pc regs here) way)
 
 -- From the code of an output the thread comes to the instruction that puts the word out, or to the first step of the protocol.
 module _ (g : Setting) (r : Runner) where
@@ -412,9 +428,13 @@ module _ (g : Setting) (r : Runner) where
           its : PortIs g r p out.listed z
           its = has.ports p out.listed out.is
 
-          way : WithinParts (home g r) (relied g r) (IsApart r.stack) (port_alone (port_place g r p)) r.thread (OutputOutcome (home g r) (relied g r) r.stack r.thread (running r.tie pc regs) z.core.words (port_place g r p) its.port o.pos pc' (option_map (eval z.world.store) o.time) (eval z.world.store o.value)) most z.core
+          way : WithinParts (home g r) (relied g r) (IsApart r.stack) (port_alone (port_place g r p)) r.thread
+              (OutputOutcome (home g r) (relied g r) r.stack r.thread (running r.tie pc regs) z.core.words (port_place g r p) its.port
+              o.pos pc' (option_map (eval z.world.store) o.time) (eval z.world.store o.value)) most z.core
           way =
-              subst (λ q. WithinParts (home g r) (relied g r) (IsApart r.stack) (port_alone (port_place g r p)) r.thread (OutputOutcome (home g r) (relied g r) r.stack r.thread (running r.tie pc regs) z.core.words (port_place g r p) its.port o.pos q (option_map (eval z.world.store) o.time) (eval z.world.store o.value)) most z.core) (sym code.end)
+              subst (λ q. WithinParts (home g r) (relied g r) (IsApart r.stack) (port_alone (port_place g r p)) r.thread
+              (OutputOutcome (home g r) (relied g r) r.stack r.thread (running r.tie pc regs) z.core.words (port_place g r p) its.port
+              o.pos q (option_map (eval z.world.store) o.time) (eval z.world.store o.value)) most z.core) (sym code.end)
               (code.so.by (home g r) (relied g r) r.stack r.thread (port_place g r p) its.port (running r.tie pc regs) z.world.store z.core code.stand (runs_at g r z pc regs here) (room_of g r laid z regs bases has.holds) (time_laid g r laid z regs o.time fits.time bases has.holds) (laid_at g r laid z regs o.value fits.value bases has.holds)
               (port_stands g r laid o fits p e no_stamp out rest z has exits pc pc' j regs here bases no_hand behind fit_rest))
       to (ToTimer t) e h out on = absurd h

@@ -140,7 +140,9 @@ module _ {moment : Moment none_rests} (thread_at : ThreadAt moment None)
   own_store v unchanged =
       let works = works_at moment c t r None runs_r in
       let same : works.branch ≡ e.branch = same_Some works.branch e.branch (sym works.known ∙ e.known) in
-      e.is_next.store v (first_unchanged e.branch.items v (ap (λ (b : Branch). by_items (change v) b.items) (sym same) ∙ ap (λ (f : Footprint). f.changes v) (sym works.footprint) ∙ unchanged))
+      e.is_next.store v (first_unchanged e.branch.items v
+      (ap (λ (b : Branch). by_items (change v) b.items) (sym same) ∙ ap (λ (f : Footprint). f.changes v)
+      (sym works.footprint) ∙ unchanged))
 
   not_t : (u : ℕ) → only_thread t u ≡ false → u ≢ t
   not_t u m f = let both : true ≡ false = sym (eq-eqb u t f) ∙ m in cc
@@ -359,7 +361,8 @@ module _ {moment : Moment none_rests} (thread_at : ThreadAt moment None)
     alone_on same not_over transfer its =
         let was = sym same ∙ its in
         alone_behind transfer.channel transfer.side g x.state st.lawful
-        (channel_known g who w.machine x.state st.wired c t r None transfer runs_r was) r.branch e.branch e.next e.known (st.alone c t r None transfer runs_r was)
+        (channel_known g who w.machine x.state st.wired c t r None transfer runs_r was) r.branch e.branch e.next e.known
+        (st.alone c t r None transfer runs_r was)
         piece e.world all_acted own_branch not_over
 
     -- An event of which this is the thread's part: a step of the thread, or another one that lets the branch act. Core c stands behind it

@@ -160,7 +160,13 @@ module _ {moment : Moment none_rests} {thread_at : ThreadAt moment None} {branch
     family = stand.family;
     footprint = refl;
     parents = parents_behind branch_at own_step;
-    thread = record { thread = running r.tie (pc + 1) regs'; there = gone_on g r a pc regs regs' here ends; tied = refl; events = events_on branch.mode items false on (sym unwatched); is = subst (λ m. ThreadIs r.parents m Running) (sym on) refl };
+    thread = record {
+      thread = running r.tie (pc + 1) regs';
+      there = gone_on g r a pc regs regs' here ends;
+      tied = refl;
+      events = events_on branch.mode items false on (sym unwatched);
+      is = subst (λ m. ThreadIs r.parents m Running) (sym on) refl;
+    };
     in_hand = empty refl;
     sides = stand.sides;
     inside = stand.inside;

@@ -47,12 +47,14 @@ module _ (g : Setting) (r : Runner) where
     pub size : length words ≡ length y.core.words
 
   -- an item is done by such a turn, which leaves these items and this store
-  pub own_goes : (j : ℕ) (y : ThreadView) (pc : ℕ) (regs : Regs) (words : List ℕ) → MakesOwn y pc regs words → HasBases g r regs → y.hand ≡ None →
+  pub own_goes : (j : ℕ) (y : ThreadView) (pc : ℕ) (regs : Regs) (words : List ℕ) → MakesOwn y pc regs words → HasBases g r regs →
+      y.hand ≡ None →
       (item : Item) (rest items : List Item) (store : Store) (has : Has g r (item ∷ rest) y) →
       acts g.program g.stimulus y.world (go r.branch) ≡ Some (record (with_items y.world r.branch has.branch items) { store = store }) →
       ((v : ℕ) → by_item (change v) item ≡ false → words_of store v ≡ words_of y.world.store v) →
       Holds (places g r.core) r.footprint.uses 0 words store → r.stack + temporary ≤ length words →
-      (jumps : ℕ) → ((core : CoreState) → SameStamps g r.core items y.core core → StandsAt g r items jumps pc regs core) → ItemsFit g r items → jumps ≤ j + 1 → Goes g r j y
+      (jumps : ℕ) → ((core : CoreState) → SameStamps g r.core items y.core core → StandsAt g r items jumps pc regs core) →
+      ItemsFit g r items → jumps ≤ j + 1 → Goes g r j y
   own_goes j y pc regs words made bases no_hand item rest items store has acted same holds room jumps stands fits fewer =
       let th = running r.tie made.index regs in
       let th' = running r.tie pc regs in
@@ -85,7 +87,13 @@ module _ (g : Setting) (r : Runner) where
           action = go r.branch;
           own = own_go;
           acted = acted;
-          is_next = record { clocks = refl; branches = refl; store = λ v none. same v (subst (λ these. first_changes these v ≡ false) has.runs.items_are none); trace = refl };
+          is_next = record {
+            clocks = refl;
+            branches = refl;
+            store = λ v none. same v
+                (subst (λ these. first_changes these v ≡ false) has.runs.items_are none);
+            trace = refl;
+          };
           inboxes = refl;
         };
         jumps = jumps;
@@ -93,7 +101,8 @@ module _ (g : Setting) (r : Runner) where
         rest = record {
           pc = pc;
           regs = regs;
-          here = here_at items (stands_unwatched g r items jumps pc regs left stand) (get_set_same y.core.threads r.thread th th' made.here);
+          here = here_at items (stands_unwatched g r items jumps pc regs left stand)
+              (get_set_same y.core.threads r.thread th th' made.here);
           bases = bases;
           stands = stand;
           fits = fits;
@@ -113,4 +122,5 @@ module _ (g : Setting) (r : Runner) where
       acts g.program g.stimulus y.world (go r.branch) ≡ Some (with_items y.world r.branch has.branch items) →
       (exits : List Exit) (jumps : ℕ) → ItemsFrom g r items exits pc jumps → ItemsFit g r items → jumps ≤ j + 1 → Goes g r j y
   spot_goes j y pc regs made bases no_hand item rest items has acted exits jumps at_code fits fewer =
-      own_goes j y pc regs y.core.words made bases no_hand item rest items y.world.store has acted (λ v c. refl) has.holds.holds has.holds.room jumps (λ core same. items_stand g r items exits pc jumps regs core at_code) fits fewer
+      own_goes j y pc regs y.core.words made bases no_hand item rest items y.world.store has acted (λ v c. refl) has.holds.holds
+      has.holds.room jumps (λ core same. items_stand g r items exits pc jumps regs core at_code) fits fewer

@@ -58,7 +58,9 @@ module _ (g : Setting) (r : Runner) (ss : kernel.Statements) (pos : Pos) (b : ke
   abbrev Piece : (pc pc' : ℕ) → Type 0
   Piece pc pc' = SeveralAt (code g r) (plan g r) (branch_count others) (PiecesAt (code g r) (plan g r) first_sides ss []) (SlavesAt (code g r) (plan g r) r.sides (ss ∷ []) others) pc pc'
 
-  module _ (rest : List Item) (exits : List Exit) (pc pc' j : ℕ) (piece : Piece pc pc') (fits : Fits g r (kernel.par all)) (behind : ItemsFrom g r rest exits pc' j) (rest_fits : ItemsFit g r rest) (z : ThreadView) (regs : Regs) (bases : HasBases g r regs) where
+  module _ (rest : List Item) (exits : List Exit) (pc pc' j : ℕ) (piece : Piece pc pc') (fits : Fits g r (kernel.par all))
+      (behind : ItemsFrom g r rest exits pc' j) (rest_fits : ItemsFit g r rest) (z : ThreadView) (regs : Regs)
+      (bases : HasBases g r regs) where
     -- the branch that makes them, while it waits
     abbrev parent : (sync from count : ℕ) → Parent
     parent sync from count = record {

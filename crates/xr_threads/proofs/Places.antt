@@ -105,13 +105,16 @@ counted : (core at : ℕ) → at ≡ core → on_core core at 1 ≡ 1
 counted core at e = ap (λ c. if_so c 1) (let z : nat_eq at core ≡ true = grind arith in z)
 
 -- two of a kind that have one number on a core are the same
-pub numbers_differ : {X : Type 0} (core_of : X → ℕ) (xs : List X) (core p q : ℕ) (x y : X) → slice_get xs p ≡ Some x → slice_get xs q ≡ Some y → core_of x ≡ core → core_of y ≡ core →
+pub numbers_differ : {X : Type 0} (core_of : X → ℕ) (xs : List X) (core p q : ℕ) (x y : X) → slice_get xs p ≡ Some x →
+    slice_get xs q ≡ Some y → core_of x ≡ core → core_of y ≡ core →
     number_on core_of core xs p ≡ number_on core_of core xs q → p ≡ q
 numbers_differ {X = X} core_of xs core p q x y at_p at_q here here' same =
     let each : X → ℕ = λ k. on_core core (core_of k) 1 in
     ⊎_elim (λ e. e)
     (λ d. ⊎_elim
-    (λ lt. let h = before_later each xs p q x lt at_p in let c = counted core (core_of x) here in let z : ⊥ = omega (arith, h, c, same) in absurd z)
-    (λ lt. let h = before_later each xs q p y lt at_q in let c = counted core (core_of y) here' in let z : ⊥ = omega (arith, h, c, same) in absurd z)
+    (λ lt. let h = before_later each xs p q x lt at_p in let c = counted core (core_of x) here in let z : ⊥ = omega
+    (arith, h, c, same) in absurd z)
+    (λ lt. let h = before_later each xs q p y lt at_q in let c = counted core (core_of y) here' in let z : ⊥ = omega
+    (arith, h, c, same) in absurd z)
     (order p q d))
     (same_or_not p q)

@@ -225,8 +225,10 @@ module _ (moment : Moment none_rests)
         refl h.on.is_channel
 
     -- Inside a transfer the branch waits for an answer, and nothing is in the inbox; the other steps go on.
-    pub inside_cannot : (transfer : Transfer) → r.transfer ≡ Some transfer → (items : List Item) (j : ℕ) → InTransfer g r transfer items j view → CannotAct g r x.state
-    inside_cannot transfer its items j h = by transfer.phase h.goes_with h.steps (wired_inside g who w.machine x.state st.wired c t line r hand transfer runs_r its is_line)
+    pub inside_cannot : (transfer : Transfer) → r.transfer ≡ Some transfer → (items : List Item) (j : ℕ) →
+        InTransfer g r transfer items j view → CannotAct g r x.state
+    inside_cannot transfer its items j h = by transfer.phase h.goes_with h.steps
+        (wired_inside g who w.machine x.state st.wired c t line r hand transfer runs_r its is_line)
       where
         channel : ℕ
         channel = transfer.channel
@@ -257,7 +259,9 @@ module _ (moment : Moment none_rests)
             answer_cannot g r x.state h.has.branch (awaits channel h.pos) rest runs channel side (stands_on h.has.branch runs.known channel side h.stands_in) (st.plain.outside r.branch h.has.branch runs.known)
             (its_inbox channel side line is_line at.2 (no_answer channel side line is_line at.2 v spot_is none)) h.pos refl
 
-        by : (f : Phase) → GoesWith f channel h.pos items → TakesSteps g r channel side h.pos (acts_left f) (IsBehind g r (items_behind transfer.phase items) j) h.pc h.regs → ghosts.spots line side ≡ spot f false → CannotAct g r x.state
+        by : (f : Phase) → GoesWith f channel h.pos items →
+            TakesSteps g r channel side h.pos (acts_left f) (IsBehind g r (items_behind transfer.phase items) j) h.pc h.regs →
+            ghosts.spots line side ≡ spot f false → CannotAct g r x.state
         by between goes steps spot_is = absurd goes
         by (sends_end v) goes steps spot_is = absurd (sends_one (sends_end v) tt spot_is 1 steps.0)
         by (awaits_ack (offers v)) goes steps spot_is = awaits_cannot v spot_is (nothing_there 3 steps.0) goes.0 goes.1

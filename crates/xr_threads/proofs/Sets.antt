@@ -43,7 +43,10 @@ module _ (g : Setting) (r : Runner) (laid : IsLaidOut g r) where
         ap (λ o. with_value s o (stored s place)) is
 
     -- where the code has come, the turn is next: it writes the word, or traps by the first error
-    set_turns : (z : ThreadView) (regs : Regs) → HasBases g r regs → z.hand ≡ None → Has g r (item ∷ rest) z → (v i : Value) → eval z.world.store x ≡ v → index_in z.world.store place ≡ i → (y : ThreadView) → SetOutcome (plan g r).vars (home g r) (relied g r) r.stack r.thread (running r.tie pc regs) z.core.words place pc' v i y.core → Since g r (IsApart r.stack) any_part z y → Turns g r j y
+    set_turns : (z : ThreadView) (regs : Regs) → HasBases g r regs → z.hand ≡ None → Has g r (item ∷ rest) z → (v i : Value) →
+        eval z.world.store x ≡ v → index_in z.world.store place ≡ i → (y : ThreadView) →
+        SetOutcome (plan g r).vars (home g r) (relied g r) r.stack r.thread (running r.tie pc regs) z.core.words place pc' v i y.core →
+        Since g r (IsApart r.stack) any_part z y → Turns g r j y
     set_turns z regs bases no_hand has v i is is_index y outcome since q k = by v is outcome
       where
         since' : Since g r (IsApart r.stack) any_part z q
@@ -57,7 +60,10 @@ module _ (g : Setting) (r : Runner) (laid : IsLaidOut g r) where
 
         by : (v : Value) → eval z.world.store x ≡ v → SetOutcome (plan g r).vars (home g r) (relied g r) r.stack r.thread (running r.tie pc regs) z.core.words place pc' v i y.core → Turn g r j q
         by (word v) e writes =
-            store_turns g r laid item place rest pc pc' j uses_place changes (or_left (by_target (change (variable_of place)) place) (by_expression (change (variable_of place)) x) (target_changed place)) rest_fits q (λ regs' core' bases' still. items_stand g r rest exits pc' j regs' core' behind) z y regs v i bases k since' (since'.hand ∙ no_hand) has_q
+            store_turns g r laid item place rest pc pc' j uses_place changes
+            (or_left (by_target (change (variable_of place)) place) (by_expression (change (variable_of place)) x)
+            (target_changed place)) rest_fits q (λ regs' core' bases' still. items_stand g r rest exits pc' j regs' core' behind) z y
+            regs v i bases k since' (since'.hand ∙ no_hand) has_q
             (set_step q.world has_q.branch (word v) (still (word v) e)) is_index writes
         by (error kind pos) e traps =
             turn.errs (value_errs g r q item rest kind pos (traps q.core (core_kept g r k)) has_q (since'.hand ∙ no_hand) (set_step q.world has_q.branch (error kind pos) (still (error kind pos) e)))

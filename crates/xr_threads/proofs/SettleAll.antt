@@ -49,7 +49,8 @@ steps_append K s f (Some x) [] others = omega arith
 steps_append K s f (Some x) (m ∷ piece) others = let on = steps_append K s f (acts K s x m) piece others in omega (arith, on)
 
 -- A thread stands as well where others may be at rest, if it isn't at rest.
-by_transfer : (g : Setting) (r : Runner) (rests : Bool) (transfer : Option Transfer) (items : List Item) (left : ℕ) (z : ThreadView) → StandsWith g r rests transfer items left z →
+by_transfer : (g : Setting) (r : Runner) (rests : Bool) (transfer : Option Transfer) (items : List Item) (left : ℕ) (z : ThreadView) →
+    StandsWith g r rests transfer items left z →
     ((rests' : Bool) → StandsWith g r rests' transfer items left z) ⊎ ((rests ≡ true) × (transfer ≡ None) × IsAtRest g r items left z)
 by_transfer g r rests None items left z (inl h) = inl (λ b. inl h)
 by_transfer g r rests None items left z (inr (inl h)) = inl (λ b. inr (inl h))
@@ -58,7 +59,8 @@ by_transfer g r false None items left z (inr (inr h)) = absurd h
 by_transfer g r rests (Some transfer) items left z h = inl (λ b. h)
 
 -- then it runs a branch, and is in no transfer
-by_cases : (g : Setting) (r : Runner) (rests : Bool) (items : List Item) (m : Mode) (left : ℕ) (z : ThreadView) → StandsBy g r rests items m left z →
+by_cases : (g : Setting) (r : Runner) (rests : Bool) (items : List Item) (m : Mode) (left : ℕ) (z : ThreadView) →
+    StandsBy g r rests items m left z →
     ((rests' : Bool) → StandsBy g r rests' items m left z) ⊎ ((rests ≡ true) × (m ≡ runs) × (r.transfer ≡ None) × IsAtRest g r items left z)
 by_cases g r rests items runs left z h =
     ⊎_elim
@@ -91,7 +93,9 @@ stands_otherwise g r rests rests' hand a x life actions branch h by = record {
 
 -- a role's thread stands as before, where it may rest if it might, and families may have done more
 role_as : (g : Setting) (rests rests' : Bool) (a : CoreState) (x : World) (life : Life) (actions more : ℕ → ℕ) (role : Role) → ((s : Runner) (hand : Option Hand) → role ≡ used_by s hand → rests ≡ true → rests' ≡ true) →
-    ((s : Runner) (hand : Option Hand) → role ≡ used_by s hand → Rely g s (record { core = a; world = x; hand = hand }) (record { core = a; world = x; hand = hand })) → ((f : ℕ) → actions f ≤ more f) →
+    ((s : Runner) (hand : Option Hand) → role ≡ used_by s hand →
+    Rely g s (record { core = a; world = x; hand = hand }) (record { core = a; world = x; hand = hand })) →
+    ((f : ℕ) → actions f ≤ more f) →
     Stands g rests a x life actions role → Stands g rests' a x life more role
 role_as g rests rests' a x life actions more unused may k le h = h
 role_as g rests rests' a x life actions more (got_by t) may k le h = h

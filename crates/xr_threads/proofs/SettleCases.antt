@@ -486,22 +486,26 @@ module _ {may_rest : (core thread : ℕ) → Bool} {moment : Moment may_rest} {t
     settles_one l e (block n ss rest) =
         let these = todo ss (mark n ∷ rest) in
         let fit = subst (FitOn g r.core) e all_fit in
-        let q = block_settles g r n ss rest j z (subst (λ k. Rest g r k j z) e h) (footprint ∙ ap footprint_of e) (fits_here g (shrunk r these) these outermost_block (todo_fits g (anyone r.core) ss (mark n ∷ rest) fit.0 (tt, fit.1)) refl) in
+        let q = block_settles g r n ss rest j z (subst (λ k. Rest g r k j z) e h) (footprint ∙ ap footprint_of e)
+        (fits_here g (shrunk r these) these outermost_block (todo_fits g (anyone r.core) ss (mark n ∷ rest) fit.0 (tt, fit.1)) refl) in
         stays_settles these q (subst (λ k. thread_weight r.parents these < thread_weight r.parents k) (sym e) (block_lighter r.parents n ss rest))
     settles_one l e (block_end n rest) =
         let fit = subst (FitOn g r.core) e all_fit in
-        let q = mark_settles g r n rest j z (subst (λ k. Rest g r k j z) e h) (footprint ∙ ap footprint_of e) (fits_here g (shrunk r rest) rest outermost_block fit.1 refl) in
+        let q = mark_settles g r n rest j z (subst (λ k. Rest g r k j z) e h) (footprint ∙ ap footprint_of e)
+        (fits_here g (shrunk r rest) rest outermost_block fit.1 refl) in
         stays_settles rest q (subst (λ k. thread_weight r.parents rest < thread_weight r.parents k) (sym e) (mark_lighter r.parents n rest))
     settles_one l e (par_of_none rest) =
         let fit = subst (FitOn g r.core) e all_fit in
-        let q = none_settles g r rest j z (subst (λ k. Rest g r k j z) e h) (footprint ∙ ap footprint_of e) (fits_here g (shrunk r rest) rest outermost_block fit.1 refl) in
+        let q = none_settles g r rest j z (subst (λ k. Rest g r k j z) e h) (footprint ∙ ap footprint_of e)
+        (fits_here g (shrunk r rest) rest outermost_block fit.1 refl) in
         stays_settles rest q (subst (λ k. thread_weight r.parents rest < thread_weight r.parents k) (sym e) (none_lighter r.parents rest))
     settles_one l e (par_of_one ss pos rest) =
         let these = todo ss (ends ∷ []) in
         let s = under r (length x.state.branches) ss rest in
         let fit = subst (FitOn g r.core) e all_fit in
         let own_fit = branch_fits g r.core (kernel.more_branches (kernel.branch ss pos) kernel.no_branch) rest fit 0 ss refl in
-        let q = one_settles g r ss pos rest j z (subst (λ k. Rest g r k j z) e h) (footprint ∙ ap footprint_of e) (fits_here g s these outermost_block own_fit refl) in
+        let q = one_settles g r ss pos rest j z (subst (λ k. Rest g r k j z) e h) (footprint ∙ ap footprint_of e)
+        (fits_here g s these outermost_block own_fit refl) in
         under_settles ss pos rest e fit.1 q
         (subst (λ k. thread_weight (waiting_one r.branch (length x.state.branches) rest r.sides r.inside ∷ r.parents) these <
         thread_weight r.parents k) (sym e)

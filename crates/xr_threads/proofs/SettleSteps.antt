@@ -186,7 +186,8 @@ module _ {may_rest : (core thread : ℕ) → Bool} {moment : Moment may_rest} (t
     pub loose_settled : 1 ≤ threads_on g.program c → AreLoose g who_settled c a y
     loose_settled some =
         loose_behind g who who_settled c a a x.state y r core_is (laid_at moment c t r None runs_r)
-        (st.loose c a at_c some) (record { words = λ k ne. refl; resources = others_same _ _ _ _ refl refl refl; store = λ v ne. ap (λ l. words_of l v) d.store })
+        (st.loose c a at_c some) (record
+        { words = λ k ne. refl; resources = others_same _ _ _ _ refl refl refl; store = λ v ne. ap (λ l. words_of l v) d.store })
         (record { holds = subst (λ l. Holds (places g r.core) r.footprint.uses 0 a.words l) (sym d.store) holds.holds; room = holds.room })
         (λ q listed its. let k = ports q listed its in record { port = k.port; there = k.there; declared = k.declared })
         (λ v nobody no u i other at. ⊎_elim (λ (same : r ≡ i). subst (λ (k : Runner). k.footprint.changes v ≡ false) same no) (λ now. nobody u i other now) (runner_still c u i other at))

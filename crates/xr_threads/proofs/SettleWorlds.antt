@@ -66,7 +66,18 @@ module _ (g : Setting) (r : Runner) (x : World) (branch : Branch) (known : slice
       store = refl;
       inboxes = refl;
       transfer = refl;
-      seated = record { core = refl; thread = refl; tie = refl; family = refl; block = refl; stack = refl; outermost_is = refl; syncs = refl; there = λ p n e h. h; still = λ p n e h. h };
+      seated = record {
+        core = refl;
+        thread = refl;
+        tie = refl;
+        family = refl;
+        block = refl;
+        stack = refl;
+        outermost_is = refl;
+        syncs = refl;
+        there = λ p n e h. h;
+        still = λ p n e h. h;
+      };
       held = refl;
       sync = refl;
       own = λ b m. inl m;

@@ -116,8 +116,8 @@ module _ (g : Setting) (r : Runner) where
       ItemsFit g (going r b ps sides inside items) items →
       Runs y.world b branch items → branch.core ≡ r.core → HoldsStore g (going r b ps sides inside items) y →
       PortsStand g (going r b ps sides inside items) y → Rest g (going r b ps sides inside items) items j y
-  going_rest b ps sides inside items j z y branch pc regs exits here same_core bases same_syncs at_code fits works core holds
-      ports = record {
+  going_rest b ps sides inside items j z y branch pc regs exits here same_core bases same_syncs at_code fits works core holds ports =
+      record {
         pc = pc;
         regs = regs;
         here = here_at items (code_unwatched (plan g r) (code g r) sides (EndAt (plan g r) (code g r) r.tie ps) items exits pc j at_code)
@@ -141,7 +141,8 @@ module _ (g : Setting) (r : Runner) where
     pub acted : acts g.program g.stimulus z.world (go r.branch) ≡ Some (with_items z.world r.branch branch items)
     pub rest : Rest g (shrunk r items) items j (record z { world = with_items z.world r.branch branch items })
 
-  stays : (item : Item) (rest items : List Item) (j : ℕ) (z : ThreadView) → (h : Rest g r (item ∷ rest) j z) → r.footprint ≡ footprint_of (item ∷ rest) → ((th : Thing) → by_items th items ≡ true → by_items th (item ∷ rest) ≡ true) →
+  stays : (item : Item) (rest items : List Item) (j : ℕ) (z : ThreadView) → (h : Rest g r (item ∷ rest) j z) →
+      r.footprint ≡ footprint_of (item ∷ rest) → ((th : Thing) → by_items th items ≡ true → by_items th (item ∷ rest) ≡ true) →
       acts g.program g.stimulus z.world (go r.branch) ≡ Some (with_items z.world r.branch h.has.branch items) →
       (exits : List Exit) → ItemsFrom g r items exits h.pc j → ItemsFit g (shrunk r items) items → StaysOn items j z
   stays item rest items j z h footprint less acted exits at_code fits =
@@ -166,7 +167,8 @@ module _ (g : Setting) (r : Runner) where
   on_behind items exits n a b j k jumps h e = subst (ItemsFrom g r items exits a) e (behind_jumps (plan g r) (code g r) r.sides (EndOf g r) items exits n a b j jumps h)
 
   -- a block begins
-  pub block_settles : (n : ℕ) (ss : kernel.Statements) (rest : List Item) (j : ℕ) (z : ThreadView) → Rest g r (does (kernel.block n ss) ∷ rest) j z →
+  pub block_settles : (n : ℕ) (ss : kernel.Statements) (rest : List Item) (j : ℕ) (z : ThreadView) →
+      Rest g r (does (kernel.block n ss) ∷ rest) j z →
       r.footprint ≡ footprint_of (does (kernel.block n ss) ∷ rest) → ItemsFit g (shrunk r (todo ss (mark n ∷ rest))) (todo ss (mark n ∷ rest)) → StaysOn (todo ss (mark n ∷ rest)) j z
   block_settles n ss rest j z h footprint fits =
       let c = h.stands.1 in
@@ -186,7 +188,8 @@ module _ (g : Setting) (r : Runner) where
       inner (on_behind (todo ss (mark n ∷ rest)) inner c.here h.pc c.index c.further j c.jumps inside c.sum) fits
 
   -- a block ends
-  pub mark_settles : (n : ℕ) (rest : List Item) (j : ℕ) (z : ThreadView) → Rest g r (mark n ∷ rest) j z → r.footprint ≡ footprint_of (mark n ∷ rest) → ItemsFit g (shrunk r rest) rest → StaysOn rest j z
+  pub mark_settles : (n : ℕ) (rest : List Item) (j : ℕ) (z : ThreadView) → Rest g r (mark n ∷ rest) j z →
+      r.footprint ≡ footprint_of (mark n ∷ rest) → ItemsFit g (shrunk r rest) rest → StaysOn rest j z
   mark_settles n rest j z h footprint fits =
       let c = h.stands.1 in
       stays (mark n) rest rest j z h footprint (λ th u. u)
@@ -194,10 +197,12 @@ module _ (g : Setting) (r : Runner) where
       c.stands.outer (on_behind rest c.stands.outer c.here h.pc c.index c.further j c.jumps c.stands.others c.sum) fits
 
   -- a `par` of no branch
-  pub none_settles : (rest : List Item) (j : ℕ) (z : ThreadView) → Rest g r (does (kernel.par kernel.no_branch) ∷ rest) j z → r.footprint ≡ footprint_of (does (kernel.par kernel.no_branch) ∷ rest) → ItemsFit g (shrunk r rest) rest → StaysOn rest j z
+  pub none_settles : (rest : List Item) (j : ℕ) (z : ThreadView) → Rest g r (does (kernel.par kernel.no_branch) ∷ rest) j z →
+      r.footprint ≡ footprint_of (does (kernel.par kernel.no_branch) ∷ rest) → ItemsFit g (shrunk r rest) rest → StaysOn rest j z
   none_settles rest j z h footprint fits =
       let c = h.stands.1 in
-      let others : ItemsFrom g r rest h.stands.0 c.index c.further = subst (λ q. ItemsFrom g r rest h.stands.0 q c.further) (sym c.stands.1) c.stands.2 in
+      let others : ItemsFrom g r rest h.stands.0 c.index c.further = subst (λ q. ItemsFrom g r rest h.stands.0 q c.further)
+      (sym c.stands.1) c.stands.2 in
       stays (does (kernel.par kernel.no_branch)) rest rest j z h footprint (λ th u. u)
       (item_acts g.program g.stimulus r.branch z.world h.has.branch (does (kernel.par kernel.no_branch)) rest h.has.runs)
       h.stands.0 (on_behind rest h.stands.0 c.here h.pc c.index c.further j c.jumps others c.sum) fits
@@ -268,7 +273,8 @@ module _ (g : Setting) (r : Runner) where
       let at_end : ItemsAt (plan g r) (code g r) (sides_under ss r.sides) End (ends ∷ []) [] b j = record { index = b; here = 0; further = j; jumps = refl; stands = ((exits, others), refl); sum = omega arith } in
       pieces_before (plan g r) (code g r) (sides_under ss r.sides) End ss (ends ∷ []) [] a b j pieces at_end
 
-  pub one_settles : (ss : kernel.Statements) (pos : Pos) (rest : List Item) (j : ℕ) (z : ThreadView) → Rest g r (does (kernel.par (kernel.more_branches (kernel.branch ss pos) kernel.no_branch)) ∷ rest) j z →
+  pub one_settles : (ss : kernel.Statements) (pos : Pos) (rest : List Item) (j : ℕ) (z : ThreadView) →
+      Rest g r (does (kernel.par (kernel.more_branches (kernel.branch ss pos) kernel.no_branch)) ∷ rest) j z →
       r.footprint ≡ footprint_of (does (kernel.par (kernel.more_branches (kernel.branch ss pos) kernel.no_branch)) ∷ rest) → ItemsFit g (under r (length z.world.branches) ss rest) (todo ss (ends ∷ [])) → GoesUnder ss rest j z
   one_settles ss pos rest j z h footprint fits =
       let item = does (kernel.par (kernel.more_branches (kernel.branch ss pos) kernel.no_branch)) in
@@ -332,7 +338,8 @@ module _ (g : Setting) (r : Runner) (p : Parent) (ps : List Parent) where
       ∙ ap (λ o. is_done o && true) (get_set_same x.branches r.branch branch (finished branch) known)
 
   -- and the one that waits goes on
-  rises_acts : (z : ThreadView) (branch : Branch) → slice_get z.world.branches r.branch ≡ Some branch → (w : ParentWaits g z.world r.core r.family p r.branch) → p.sync ≡ None → p.branch ≢ r.branch →
+  rises_acts : (z : ThreadView) (branch : Branch) → slice_get z.world.branches r.branch ≡ Some branch →
+      (w : ParentWaits g z.world r.core r.family p r.branch) → p.sync ≡ None → p.branch ≢ r.branch →
       acts g.program g.stimulus (with_ended z.world r.branch branch) (go p.branch) ≡ Some (with_risen z.world r.branch branch p.branch w.branch)
   rises_acts z branch known w none apart =
       let K = g.program in
@@ -347,7 +354,8 @@ module _ (g : Setting) (r : Runner) (p : Parent) (ps : List Parent) where
       ∙ ap (λ n. joins st r.branch n) (w.one none)
       ∙ ap (λ b. only_if b y) (only_done z.world branch known)
 
-  pub rises : (rest : List Item) (j : ℕ) (z : ThreadView) → r.parents ≡ p ∷ ps → p.sync ≡ None → (h : Rest g r (ends ∷ rest) j z) → (w : ParentWaits g z.world r.core r.family p r.branch) →
+  pub rises : (rest : List Item) (j : ℕ) (z : ThreadView) → r.parents ≡ p ∷ ps → p.sync ≡ None → (h : Rest g r (ends ∷ rest) j z) →
+      (w : ParentWaits g z.world r.core r.family p r.branch) →
       ItemsFit g (risen r p ps) p.items →
       HoldsStore g (risen r p ps) (record z { world = with_risen z.world r.branch h.has.branch p.branch w.branch }) →
       PortsStand g (risen r p ps) (record z { world = with_risen z.world r.branch h.has.branch p.branch w.branch }) → Rises j z
@@ -393,7 +401,8 @@ module _ (g : Setting) (r : Runner) (p : Parent) (ps : List Parent) where
     pub acted : acts g.program g.stimulus z.world (go r.branch) ≡ Some (with_ended z.world r.branch branch)
     pub joining : IsJoining g (shrunk r []) p ps most (record z { world = with_ended z.world r.branch branch })
 
-  pub first_ends : (n : ℕ) (rest : List Item) (j : ℕ) (z : ThreadView) → r.parents ≡ p ∷ ps → p.sync ≡ Some n → n < 8 → length (syncs_of ps) ≤ 6 → slice_get z.core.syncs n ≡ Some true → z.hand ≡ None →
+  pub first_ends : (n : ℕ) (rest : List Item) (j : ℕ) (z : ThreadView) → r.parents ≡ p ∷ ps → p.sync ≡ Some n → n < 8 →
+      length (syncs_of ps) ≤ 6 → slice_get z.core.syncs n ≡ Some true → z.hand ≡ None →
       Rest g r (ends ∷ rest) j z → EndsFirst (7 + j) z
   first_ends n rest j z parents sync few outer taken no_hand h = record {
     branch = h.has.branch;
@@ -415,7 +424,8 @@ module _ (g : Setting) (r : Runner) (p : Parent) (ps : List Parent) where
       y : ThreadView
       y = record z { world = with_ended z.world r.branch h.has.branch }
 
-      c : Behind (plan g r) (code g r) (FirstAt (plan g r) (code g r) r.sides (EndOf g r) ends (λ exits pc k. ItemsFrom g r rest exits pc k) h.stands.0) h.pc j
+      c : Behind (plan g r) (code g r)
+          (FirstAt (plan g r) (code g r) r.sides (EndOf g r) ends (λ exits pc k. ItemsFrom g r rest exits pc k) h.stands.0) h.pc j
       c = h.stands.1
 
       -- the synchroniser is taken, and the runner has nothing in hand

@@ -36,7 +36,13 @@ pub record IsWithin (smaller larger : Footprint) : Type 0 where
 
 -- items that use no more have no more
 pub within_of_uses : (items others : List Item) → ((th : Thing) → by_items th items ≡ true → by_items th others ≡ true) → IsWithin (footprint_of items) (footprint_of others)
-within_of_uses items others h = record { uses = λ v u. h (variable v) u; changes = λ v u. h (change v) u; ports = λ p u. h (port p) u; timers = λ t u. h (timer t) u; channels = λ c u. h (channel c) u }
+within_of_uses items others h = record {
+  uses = λ v u. h (variable v) u;
+  changes = λ v u. h (change v) u;
+  ports = λ p u. h (port p) u;
+  timers = λ t u. h (timer t) u;
+  channels = λ c u. h (channel c) u;
+}
 
 -- What is changed is used.
 
@@ -321,7 +327,8 @@ all_had g r block (channel c) = refl
 pub fits_everywhere : (g : Setting) (r : Runner) (items : List Item) → r.block ≡ outside → ItemsFit g r items → FitOn g r.core items
 fits_everywhere g r items block h = items_here g r (anyone r.core) refl (sym block) items h (λ th u. all_had g r (sym block) th)
 
-own_had : (g : Setting) (r s : Runner) (core : s.core ≡ r.core) (block : s.block ≡ r.block) (items : List Item) → s.footprint ≡ footprint_of items → (th : Thing) → by_items th items ≡ true → IsHad g r s core block th
+own_had : (g : Setting) (r s : Runner) (core : s.core ≡ r.core) (block : s.block ≡ r.block) (items : List Item) →
+    s.footprint ≡ footprint_of items → (th : Thing) → by_items th items ≡ true → IsHad g r s core block th
 own_had g r s core block items e (variable v) u = subst (λ (f : Footprint). f.uses v ≡ true) (sym e) u
 own_had g r s core block items e (change v) u = subst (λ (f : Footprint). f.changes v ≡ true) (sym e) u
 own_had g r s core block items e (port p) u = subst (λ (f : Footprint). f.ports p ≡ true) (sym e) u
@@ -329,10 +336,12 @@ own_had g r s core block items e (timer t) u = subst (λ (f : Footprint). f.time
 own_had g r s core block items e (channel c) u = subst (λ (f : Footprint). f.channels c ≡ true) (sym e) u
 
 -- so items fit a runner in the same block of the same core
-pub fits_moved : (g : Setting) (r s : Runner) (items : List Item) → s.core ≡ r.core → s.block ≡ r.block → s.footprint ≡ footprint_of items → ItemsFit g r items → ItemsFit g s items
+pub fits_moved : (g : Setting) (r s : Runner) (items : List Item) → s.core ≡ r.core → s.block ≡ r.block →
+    s.footprint ≡ footprint_of items → ItemsFit g r items → ItemsFit g s items
 fits_moved g r s items core block e h = items_here g r s core block items h (λ th u. own_had g r s core block items e th u)
 
-pub fits_here : (g : Setting) (r : Runner) (items : List Item) → r.block ≡ outside → FitOn g r.core items → r.footprint ≡ footprint_of items → ItemsFit g r items
+pub fits_here : (g : Setting) (r : Runner) (items : List Item) → r.block ≡ outside → FitOn g r.core items →
+    r.footprint ≡ footprint_of items → ItemsFit g r items
 fits_here g r items block h e = fits_moved g (anyone r.core) r items refl block e h
 
 -- the branches of a `par`, and what is left behind it
@@ -401,9 +410,11 @@ module _ (g : Setting) (r : Runner) (items : List Item) (less : IsWithin (footpr
   bases_shrink regs h = record { base = h.base; stack = h.stack; names = h.names }
 
   behind_shrinks : (these : List Item) (j index : ℕ) (regs : Regs) → IsBehind g r these j index regs → IsBehind g (shrunk r items) these j index regs
-  behind_shrinks these j index regs h = (bases_shrink regs h.0, λ core. stands_on g r (footprint_of items) r.transfer these j index regs core (h.1 core))
+  behind_shrinks these j index regs
+      h = (bases_shrink regs h.0, λ core. stands_on g r (footprint_of items) r.transfer these j index regs core (h.1 core))
 
-  pub transfer_shrinks : (transfer : Transfer) (j : ℕ) (z : ThreadView) → InTransfer g r transfer items j z → InTransfer g (shrunk r items) transfer items j z
+  pub transfer_shrinks : (transfer : Transfer) (j : ℕ) (z : ThreadView) → InTransfer g r transfer items j z →
+      InTransfer g (shrunk r items) transfer items j z
   transfer_shrinks transfer j z h = record {
     pos = h.pos;
     on_time = h.on_time;
@@ -413,7 +424,10 @@ module _ (g : Setting) (r : Runner) (items : List Item) (less : IsWithin (footpr
     pc = h.pc;
     regs = h.regs;
     here = h.here;
-    steps = acts_map (home g r) r.thread (end_place g r transfer.channel transfer.side) (running r.tie h.pc h.regs) h.pos (acts_left transfer.phase) (IsBehind g r (items_behind transfer.phase items) j) (IsBehind g (shrunk r items) (items_behind transfer.phase items) j) (behind_shrinks (items_behind transfer.phase items) j) h.pc h.regs h.steps;
+    steps = acts_map (home g r) r.thread (end_place g r transfer.channel transfer.side) (running r.tie h.pc h.regs) h.pos
+        (acts_left transfer.phase) (IsBehind g r (items_behind transfer.phase items) j)
+        (IsBehind g (shrunk r items) (items_behind transfer.phase items) j) (behind_shrinks (items_behind transfer.phase items) j) h.pc
+        h.regs h.steps;
     fits = fits_moved g r (shrunk r items) items refl refl refl h.fits;
     has = has_shrinks items z h.has;
   }

@@ -43,7 +43,8 @@ module _ (g : Setting) (who who' : Roles) (c : ℕ) (a b : CoreState) (x y : Wor
     (changes : (v : ℕ) → NobodyChanges who' c v → (r.footprint.changes v ≡ false) × NobodyChanges who c v)
     (wants : (v : ℕ) → IsWanted who' c v → IsWanted who c v)
     (has : (q : ℕ) → NobodyHas who' c q → (r.footprint.ports q ≡ false) × NobodyHas who c q) where
-  not_own : (v n i : ℕ) (found : VarPlan) → r.footprint.changes v ≡ false → IsNear (places g r.core) v n found → i < found.words → MayChange g r (0 + n + i) → ⊥
+  not_own : (v n i : ℕ) (found : VarPlan) → r.footprint.changes v ≡ false → IsNear (places g r.core) v n found → i < found.words →
+      MayChange g r (0 + n + i) → ⊥
   not_own v n i found unchanged near lt (of_variable v' n' i' found' near' changed' lt' is') =
       let same : v ≡ v' = laid.frame.disjoint v n i v' n' i' found found' near near' lt lt' (omega (arith, is')) in
       let both : true ≡ false = sym changed' ∙ ap r.footprint.changes (sym same) ∙ unchanged in
@@ -58,7 +59,8 @@ module _ (g : Setting) (who who' : Roles) (c : ℕ) (a b : CoreState) (x y : Wor
   variable_still v nobody wanted =
       let old = changes v nobody in
       holds_on (places g c) v a.words b.words x.store y.store (leaves.store v old.0)
-      (λ n i found near lt. leaves.words (0 + n + i) (not_own v n i found old.0 (subst (λ k. IsNear (places g k) v n found) (sym on) near) lt))
+      (λ n i found near lt. leaves.words (0 + n + i)
+      (not_own v n i found old.0 (subst (λ k. IsNear (places g k) v n found) (sym on) near) lt))
       (loose.variables v old.1 (wants v wanted))
 
   port_still : (q : ℕ) (listed : PortUse) → IsPort g (anyone c) q listed → NobodyHas who' c q → PortIs g (anyone c) q listed (record { core = b; world = y; hand = None })
@@ -70,7 +72,8 @@ module _ (g : Setting) (who who' : Roles) (c : ℕ) (a b : CoreState) (x y : Wor
         there =
             port_same a b (port_place g (anyone c) q) (leaves.resources.parts (ResPort (port_place g (anyone c) q))
             (λ m.
-            let one = numbers_differ core_of_port g.program.ports r.core q m.port listed m.listed is.known m.is.known (is.core ∙ sym on) m.is.core (ap (λ k. port_number k g.program.ports q) on ∙ m.place) in
+            let one = numbers_differ core_of_port g.program.ports r.core q m.port listed m.listed is.known m.is.known (is.core ∙ sym on)
+            m.is.core (ap (λ k. port_number k g.program.ports q) on ∙ m.place) in
             let both : true ≡ false = sym m.is.mine ∙ ap r.footprint.ports (sym one) ∙ old.0 in
             cc))
             ∙ at.there;
@@ -173,7 +176,14 @@ module _ {moment : Moment none_rests} {hand : Option Hand} {thread_at : ThreadAt
       family = stand.family;
       footprint = stand.footprint;
       parents = stand.parents;
-      thread = record { thread = on.thread; there = on.there; tied = on.tied; events = calm on.thread.event_bit on.no_events; is = alive on.thread.mode on.runs };
+      thread = record {
+        thread = on.thread;
+        there = on.there;
+        tied = on.tied;
+        events = calm on.thread.event_bit on.no_events;
+        is = alive
+            on.thread.mode on.runs;
+      };
       in_hand = s.in_hand;
       sides = stand.sides;
       inside = stand.inside;
@@ -234,7 +244,8 @@ module _ {moment : Moment none_rests} {hand : Option Hand} {thread_at : ThreadAt
             far_steps = λ d u ne. far_steps_still thread_at moved s.own b x.state silent_effect None d u ne;
             stand = silent_stand;
             links = st.links;
-            wired = wired_still g who who' w.machine silent_watched.machine c a b x.state x.state silent_transfers at_c refl ends refl st.wired;
+            wired = wired_still g who who' w.machine silent_watched.machine c a b x.state x.state silent_transfers at_c refl ends
+                refl st.wired;
             alone = λ u i other transfer m at its. let k = s.before c u i other at in st.alone c u i k.0 transfer k.1 its;
             loose = silent_loose;
             roots = roots ∙ st.roots c a at_c;

@@ -93,21 +93,24 @@ module _ (g : Setting) (r : Runner) where
   stands_by_still may_rest items erred left z y k h = k.hand ∙ h
 
   -- more threads may be at rest
-  rests_more_with : (a b : Bool) (transfer : Option Transfer) (items : List Item) (left : ℕ) (z : ThreadView) → (a ≡ true → b ≡ true) → StandsWith g r a transfer items left z → StandsWith g r b transfer items left z
+  rests_more_with : (a b : Bool) (transfer : Option Transfer) (items : List Item) (left : ℕ) (z : ThreadView) → (a ≡ true → b ≡ true) →
+      StandsWith g r a transfer items left z → StandsWith g r b transfer items left z
   rests_more_with false b None items left z le (inl h) = inl h
   rests_more_with false b None items left z le (inr (inl h)) = inr (inl h)
   rests_more_with false b None items left z le (inr (inr h)) = absurd h
   rests_more_with true b None items left z le h = subst (λ c. StandsWith g r c None items left z) (sym (le refl)) h
   rests_more_with a b (Some transfer) items left z le h = h
 
-  pub rests_more : (a b : Bool) (items : List Item) (mode : Mode) (left : ℕ) (z : ThreadView) → (a ≡ true → b ≡ true) → StandsBy g r a items mode left z → StandsBy g r b items mode left z
+  pub rests_more : (a b : Bool) (items : List Item) (mode : Mode) (left : ℕ) (z : ThreadView) → (a ≡ true → b ≡ true) →
+      StandsBy g r a items mode left z → StandsBy g r b items mode left z
   rests_more a b items runs left z le h = rests_more_with a b r.transfer items left z le h
   rests_more a b items (waits from count) left z le h = h
   rests_more a b items ended left z le h = h
   rests_more a b items erred left z le h = h
 
   -- the thread that runs it is there still
-  thread_still : (mode : Mode) (items : List Item) (z y : ThreadView) → Rely g r z y → HasThread g r mode items z.core → HasThread g r mode items y.core
+  thread_still : (mode : Mode) (items : List Item) (z y : ThreadView) → Rely g r z y → HasThread g r mode items z.core →
+      HasThread g r mode items y.core
   thread_still mode items z y k h = record {
     thread = h.thread;
     there = k.thread ∙ h.there;
@@ -138,7 +141,10 @@ module _ (g : Setting) (r : Runner) where
   parents_still x y core family (p ∷ ps) first same h = (parent_still x y core family first p (same p.branch (inl refl)) h.0, parents_still x y core family ps p.branch (λ b m. same b (inr m)) h.1)
 
   -- What a runner stands on is kept, so it stands as before. Its life is as long, its family may have done more, and it may be at rest.
-  pub stand_still : (rests rests' : Bool) (hand : Option Hand) (a b : CoreState) (x y : World) (life life' : Life) (actions more : ℕ → ℕ) (branch : Branch) → (rests ≡ true → rests' ≡ true) → Rely g r (record { core = a; world = x; hand = hand }) (record { core = b; world = y; hand = hand }) → life'.steps ≡ life.steps → ((f : ℕ) → actions f ≤ more f) → Stand g r rests hand a x life actions branch → Stand g r rests' hand b y life' more branch
+  pub stand_still : (rests rests' : Bool) (hand : Option Hand) (a b : CoreState) (x y : World) (life life' : Life) (actions more : ℕ → ℕ)
+      (branch : Branch) → (rests ≡ true → rests' ≡ true) →
+      Rely g r (record { core = a; world = x; hand = hand }) (record { core = b; world = y; hand = hand }) → life'.steps ≡ life.steps →
+      ((f : ℕ) → actions f ≤ more f) → Stand g r rests hand a x life actions branch → Stand g r rests' hand b y life' more branch
   stand_still rests rests' hand a b x y life life' actions more branch may k as_long le h =
       let z : ThreadView = record { core = a; world = x; hand = hand } in
       let z' : ThreadView = record { core = b; world = y; hand = hand } in
@@ -167,7 +173,10 @@ module _ (g : Setting) (r : Runner) where
       more_one m n l = omega arith
 
   -- the same of the branch that the runner's thread runs, wherever that stands
-  pub runner_still : (rests rests' : Bool) (hand : Option Hand) (a b : CoreState) (x y : World) (life life' : Life) (actions more : ℕ → ℕ) → (rests ≡ true → rests' ≡ true) → Rely g r (record { core = a; world = x; hand = hand }) (record { core = b; world = y; hand = hand }) → life'.steps ≡ life.steps → ((f : ℕ) → actions f ≤ more f) → Stands g rests a x life actions (used_by r hand) → Stands g rests' b y life' more (used_by r hand)
+  pub runner_still : (rests rests' : Bool) (hand : Option Hand) (a b : CoreState) (x y : World) (life life' : Life)
+      (actions more : ℕ → ℕ) → (rests ≡ true → rests' ≡ true) →
+      Rely g r (record { core = a; world = x; hand = hand }) (record { core = b; world = y; hand = hand }) → life'.steps ≡ life.steps →
+      ((f : ℕ) → actions f ≤ more f) → Stands g rests a x life actions (used_by r hand) → Stands g rests' b y life' more (used_by r hand)
   runner_still rests rests' hand a b x y life life' actions more may k as_long le h =
       subst (λ o. SomeIs o (Stand g r rests' hand b y life' more)) (sym k.branch)
       (there_then (Stand g r rests hand a x life actions) (Stand g r rests' hand b y life' more) (slice_get x.branches r.branch) (λ branch. stand_still rests rests' hand a b x y life life' actions more branch may k as_long le) h)

@@ -20,7 +20,8 @@ stamps_left g core [] a b same = tt
 stamps_left g core (does s ∷ rest) a b same = tt
 stamps_left g core (says i ∷ rest) a b same = tt
 stamps_left g core (stores place v ∷ rest) a b same = stamps_left g core rest a b same
-stamps_left g core (stamps (Port p) place v ∷ rest) a b same = (ap (λ l. slice_get l (port_number core g.program.ports p)) same, stamps_left g core rest a b same)
+stamps_left g core (stamps (Port p) place v ∷ rest) a b
+    same = (ap (λ l. slice_get l (port_number core g.program.ports p)) same, stamps_left g core rest a b same)
 stamps_left g core (stamps (Timer t) place v ∷ rest) a b same = tt
 stamps_left g core (stamps (Chan n) place v ∷ rest) a b same = tt
 stamps_left g core (mark n ∷ rest) a b same = tt
@@ -30,7 +31,8 @@ stamps_left g core (chooses choices otherwise ∷ rest) a b same = tt
 stamps_left g core (fixed i v counter ∷ rest) a b same = tt
 stamps_left g core (ends ∷ rest) a b same = tt
 
-pub stamps_then : (g : Setting) (core : ℕ) (items : List Item) (a b c : CoreState) → SameStamps g core items a b → SameStamps g core items b c → SameStamps g core items a c
+pub stamps_then : (g : Setting) (core : ℕ) (items : List Item) (a b c : CoreState) → SameStamps g core items a b →
+    SameStamps g core items b c → SameStamps g core items a c
 stamps_then g core [] a b c h k = tt
 stamps_then g core (does s ∷ rest) a b c h k = tt
 stamps_then g core (says i ∷ rest) a b c h k = tt
@@ -47,7 +49,8 @@ stamps_then g core (ends ∷ rest) a b c h k = tt
 
 -- they are a runner's own
 pub stamps_own : (g : Setting) (r : Runner) (items : List Item) (a b : CoreState) →
-    ((p : ℕ) (listed : PortUse) → IsPort g r p listed → slice_get b.ports (port_place g r p) ≡ slice_get a.ports (port_place g r p)) → ItemsFit g r items → SameStamps g r.core items a b
+    ((p : ℕ) (listed : PortUse) → IsPort g r p listed → slice_get b.ports (port_place g r p) ≡ slice_get a.ports (port_place g r p)) →
+    ItemsFit g r items → SameStamps g r.core items a b
 stamps_own g r [] a b same fits = tt
 stamps_own g r (does s ∷ rest) a b same fits = tt
 stamps_own g r (says i ∷ rest) a b same fits = tt
@@ -64,7 +67,8 @@ stamps_own g r (ends ∷ rest) a b same fits = tt
 
 module _ (g : Setting) (r : Runner) where
   -- where the code of items stands
-  pub items_stand : (items : List Item) (exits : List Exit) (pc j : ℕ) (regs : Regs) (core : CoreState) → ItemsFrom g r items exits pc j → StandsAt g r items j pc regs core
+  pub items_stand : (items : List Item) (exits : List Exit) (pc j : ℕ) (regs : Regs) (core : CoreState) → ItemsFrom g r items exits pc j →
+      StandsAt g r items j pc regs core
   items_stand [] exits pc j regs core h = absurd h
   items_stand (does s ∷ rest) exits pc j regs core h = (exits, h)
   items_stand (says i ∷ rest) exits pc j regs core h = (exits, h)
@@ -81,12 +85,19 @@ module _ (g : Setting) (r : Runner) where
   word_kept v pc begins regs a b (in_r0 is at) = in_r0 is at
 
   -- it stands so in another core too that has the same stamps
-  pub stands_kept : (items : List Item) (j pc : ℕ) (regs : Regs) (a b : CoreState) → SameStamps g r.core items a b → StandsAt g r items j pc regs a → StandsAt g r items j pc regs b
+  pub stands_kept : (items : List Item) (j pc : ℕ) (regs : Regs) (a b : CoreState) → SameStamps g r.core items a b →
+      StandsAt g r items j pc regs a → StandsAt g r items j pc regs b
   stands_kept [] j pc regs a b same h = h
   stands_kept (does s ∷ rest) j pc regs a b same h = h
   stands_kept (says i ∷ rest) j pc regs a b same h = h
-  stands_kept (stores place v ∷ rest) j pc regs a b same (begins, stored, word, lines, next) =
-      (begins, stored, word_kept v pc begins regs a b word, lines, λ regs' core' bases still. next regs' core' bases (stamps_then g r.core rest a b core' same still))
+  stands_kept (stores place v ∷ rest) j pc regs a b same (begins, stored, word, lines, next) = (
+    begins,
+    stored,
+    word_kept v pc begins regs a b word,
+    lines,
+    λ regs' core' bases still. next regs' core' bases
+        (stamps_then g r.core rest a b core' same still),
+  )
   stands_kept (stamps resource place v ∷ rest) j pc regs a b same h = h
   stands_kept (mark n ∷ rest) j pc regs a b same h = h
   stands_kept (awaits c pos ∷ rest) j pc regs a b same h = h
@@ -96,7 +107,8 @@ module _ (g : Setting) (r : Runner) where
   stands_kept (ends ∷ rest) j pc regs a b same h = h
 
   -- no item waits for an event there
-  pub stands_unwatched : (items : List Item) (j pc : ℕ) (regs : Regs) (core : CoreState) → StandsAt g r items j pc regs core → is_watching items ≡ false
+  pub stands_unwatched : (items : List Item) (j pc : ℕ) (regs : Regs) (core : CoreState) → StandsAt g r items j pc regs core →
+      is_watching items ≡ false
   stands_unwatched [] j pc regs core h = refl
   stands_unwatched (does s ∷ rest) j pc regs core h = refl
   stands_unwatched (says i ∷ rest) j pc regs core h = refl
@@ -123,12 +135,19 @@ module _ (g : Setting) (r : Runner) where
     word_on : (v pc begins : ℕ) (regs : Regs) (core : CoreState) → WordAt g r v pc begins regs core → WordAt g other v pc begins regs core
     word_on v pc begins regs core (in_r0 is at) = in_r0 is at
 
-    pub stands_on : (items : List Item) (j pc : ℕ) (regs : Regs) (core : CoreState) → StandsAt g r items j pc regs core → StandsAt g other items j pc regs core
+    pub stands_on : (items : List Item) (j pc : ℕ) (regs : Regs) (core : CoreState) → StandsAt g r items j pc regs core →
+        StandsAt g other items j pc regs core
     stands_on [] j pc regs core h = h
     stands_on (does s ∷ rest) j pc regs core h = h
     stands_on (says i ∷ rest) j pc regs core h = h
-    stands_on (stores place v ∷ rest) j pc regs core (begins, stored, word, lines, next) =
-        (begins, stored, word_on v pc begins regs core word, lines, λ regs' core' bases still. stands_on rest j stored regs' core' (next regs' core' (bases_back regs' bases) still))
+    stands_on (stores place v ∷ rest) j pc regs core (begins, stored, word, lines, next) = (
+      begins,
+      stored,
+      word_on v pc begins regs core word,
+      lines,
+      λ regs' core' bases still. stands_on rest j stored regs' core'
+          (next regs' core' (bases_back regs' bases) still),
+    )
     stands_on (stamps resource place v ∷ rest) j pc regs core h = h
     stands_on (mark n ∷ rest) j pc regs core h = h
     stands_on (awaits c pos ∷ rest) j pc regs core h = h

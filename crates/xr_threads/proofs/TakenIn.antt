@@ -46,12 +46,22 @@ module _ (g : Setting) (r : Runner) (rest : List Item) (exits : List Exit) (pc p
   stored_behind None none regs bases =
       let same : pc' ≡ pc + length transfer = let e = ap length none in let f = write_end in omega (arith, e, f) in
       behind_of_items g r rest exits (pc + length transfer) j regs bases (subst (λ p. ItemsFrom g r rest exits p j) same behind)
-  stored_behind (Some place) writes regs bases =
-      (bases, λ core. (pc + length transfer, pc', in_r0 refl refl, record { lines = write; stand = written; so = writes; end = write_end }, λ regs' core' bases' still. items_stand g r rest exits pc' j regs' core' behind))
+  stored_behind (Some place) writes regs bases = (
+    bases,
+    λ core. (
+      pc + length transfer,
+      pc',
+      in_r0 refl refl,
+      record { lines = write; stand = written; so = writes; end = write_end },
+      λ regs' core' bases' still. items_stand g r rest exits
+          pc' j regs' core' behind,
+    ),
+  )
 
   module _ (i : kernel.Input) (item_fits : Fits g r (kernel.input i)) (rest_fits : ItemsFit g r rest) (c : ℕ) (to_channel : i.resource ≡ Chan c) (side : Side) (stands_in : slice_index_or r.sides c None ≡ Some side) (writes : WritesTo (plan g r).vars i.target (pc + length transfer) write) where
     -- at the first step of the protocol
-    takes_there : (z y q : ThreadView) (regs : Regs) → HasBases g r regs → Rely g r y q → q.hand ≡ None → Has g r (does (kernel.input i) ∷ rest) q →
+    takes_there : (z y q : ThreadView) (regs : Regs) → HasBases g r regs → Rely g r y q → q.hand ≡ None →
+        Has g r (does (kernel.input i) ∷ rest) q →
         AtProtocol (home g r) (relied g r) r.stack r.thread (end_place g r c side) (running r.tie pc regs) z.core.words i.pos
         (input_acts R0 true) (EndsAt (pc + length transfer)) y.core → Communicates g r (takes_in i) j q
     takes_there z y q regs bases kept no_hand has at = record {
@@ -81,7 +91,8 @@ module _ (g : Setting) (r : Runner) (rest : List Item) (exits : List Exit) (pc p
             )
 
 -- from its code to the first step
-pub take_leads : (g : Setting) (r : Runner) (i : kernel.Input) (c : ℕ) → i.resource ≡ Chan c → IsChannel g r c → (rest : List Item) (exits : List Exit) (pc pc' j : ℕ) (z : ThreadView) (regs : Regs) →
+pub take_leads : (g : Setting) (r : Runner) (i : kernel.Input) (c : ℕ) → i.resource ≡ Chan c → IsChannel g r c →
+    (rest : List Item) (exits : List Exit) (pc pc' j : ℕ) (z : ThreadView) (regs : Regs) →
     IsLaidOut g r → ByEndAt (code g r) (plan g r) (λ end. Receives (plan g r) end i.target true i.pos) (end_at (plan g r).channels r.sides c) pc pc' → Fits g r (kernel.input i) →
     (side : Side) × (slice_index_or r.sides c None ≡ Some side) → ItemsFrom g r rest exits pc' j → ItemsFit g r rest →
     Has g r (does (kernel.input i) ∷ rest) z → IsAt g r z pc regs → HasBases g r regs → z.hand ≡ None → Leads g r (cost g r) j z

@@ -45,7 +45,10 @@ module _ (g : Setting) (r : Runner) (laid : IsLaidOut g r) (t : kernel.Statement
       item_acts g.program g.stimulus r.branch w branch (does t) rest runs ∙ begins w branch ∙ ap (λ o. chooses_side st o held other) is
 
   -- at the branching instruction, with the expression's word known
-  test_goes : (z q : ThreadView) (regs : Regs) (v : ℕ) → HasBases g r regs → q.hand ≡ None → (has : Has g r (does t ∷ rest) q) → eval q.world.store x ≡ word v → Branches (home g r) (relied g r) r.stack r.thread (running r.tie pc regs) z.core.words (chosen target next (nat_eq v 0)) q.core → Goes g r j q
+  test_goes : (z q : ThreadView) (regs : Regs) (v : ℕ) → HasBases g r regs → q.hand ≡ None → (has : Has g r (does t ∷ rest) q) →
+      eval q.world.store x ≡ word v →
+      Branches (home g r) (relied g r) r.stack r.thread (running r.tie pc regs) z.core.words (chosen target next (nat_eq v 0))
+      q.core → Goes g r j q
   test_goes z q regs v bases no_hand has is b = by (nat_eq v 0) refl
     where
       bases' : HasBases g r b.regs
@@ -62,7 +65,10 @@ module _ (g : Setting) (r : Runner) (laid : IsLaidOut g r) (t : kernel.Statement
       by false e = spot_goes g r j q next b.regs (made false e) bases' no_hand (does t) rest held has (acted false e) exits n at_held held_fits few_held
 
   -- where the code of the test has come, the turn is next
-  test_turns : (z : ThreadView) (regs : Regs) → HasBases g r regs → z.hand ≡ None → Has g r (does t ∷ rest) z → (v : Value) → eval z.world.store x ≡ v → (y : ThreadView) → TestOutcome (home g r) (relied g r) r.stack r.thread (running r.tie pc regs) z.core.words target next v y.core → Since g r (IsApart r.stack) any_part z y → Turns g r j y
+  test_turns : (z : ThreadView) (regs : Regs) → HasBases g r regs → z.hand ≡ None → Has g r (does t ∷ rest) z → (v : Value) →
+      eval z.world.store x ≡ v → (y : ThreadView) →
+      TestOutcome (home g r) (relied g r) r.stack r.thread (running r.tie pc regs) z.core.words target next v y.core →
+      Since g r (IsApart r.stack) any_part z y → Turns g r j y
   test_turns z regs bases no_hand has (word v) is y outcome since q k =
       let b = outcome q.core (core_kept g r k) in
       let since' = since_kept g r (IsApart r.stack) any_part since k in
@@ -80,7 +86,8 @@ pub test_leads : (g : Setting) (r : Runner) → IsLaidOut g r → (t : kernel.St
     ((w : World) (branch : Branch) → does_statement (step_of g.program g.stimulus w r.branch branch rest) t ≡ tests (step_of g.program g.stimulus w r.branch branch rest) x held other) →
     (exits : List Exit) (pc next target n m j : ℕ) → TestAt (code g r) (plan g r) x pc next target →
     ItemsFrom g r held exits next n → ItemsFit g r held → n ≤ j + 1 → ItemsFrom g r other exits target m → ItemsFit g r other → m ≤ j + 1 →
-    (z : ThreadView) (regs : Regs) → Has g r (does t ∷ rest) z → IsAt g r z pc regs → HasBases g r regs → z.hand ≡ None → Leads g r (cost g r) j z
+    (z : ThreadView) (regs : Regs) → Has g r (does t ∷ rest) z → IsAt g r z pc regs → HasBases g r regs → z.hand ≡ None →
+    Leads g r (cost g r) j z
 test_leads g r laid t rest x uses counted held other begins exits pc next target n m j test at_held held_fits few_held at_other other_fits few_other z regs has here bases no_hand =
     let behind = pc + length test.lines + 1 in
     let v = eval z.world.store x in

@@ -58,7 +58,8 @@ module _ (g : Setting) (r : Runner) where
       h
 
   -- one way after another
-  pub then_leads : (P Q : ThreadView → Type 0) (n m : ℕ) (z : ThreadView) → LeadsIn g r P n z → ((y : ThreadView) → P y → LeadsIn g r Q m y) → LeadsIn g r Q (n + m) z
+  pub then_leads : (P Q : ThreadView → Type 0) (n m : ℕ) (z : ThreadView) → LeadsIn g r P n z →
+      ((y : ThreadView) → P y → LeadsIn g r Q m y) → LeadsIn g r Q (n + m) z
   then_leads P Q zero m z h next = let e : m ≡ 0 + m = omega arith in subst (λ k. LeadsIn g r Q k z) e (next z h)
   then_leads P Q (suc n) m z h next =
       let e : suc (n + m) ≡ suc n + m = omega arith in
@@ -70,7 +71,8 @@ module _ (g : Setting) (r : Runner) where
       subst (λ k. LeadsIn g r Q k z) e all
 
   -- what it leads to may be said in another way
-  pub leads_as : (P Q : ThreadView → Type 0) (n : ℕ) (z : ThreadView) → ((y : ThreadView) → P y → Q y) → LeadsIn g r P n z → LeadsIn g r Q n z
+  pub leads_as : (P Q : ThreadView → Type 0) (n : ℕ) (z : ThreadView) → ((y : ThreadView) → P y → Q y) → LeadsIn g r P n z →
+      LeadsIn g r Q n z
   leads_as P Q zero z f h = f z h
   leads_as P Q (suc n) z f h =
       ⊎_elim

@@ -58,7 +58,8 @@ module _ (moment : Moment none_rests)
   abbrev pub watched_ticked : Watched
   watched_ticked = watched_after w (Tick c) (record w.machine { cores = slice_set w.machine.cores c (ticked a) })
 
-  kept_here : (u : ℕ) (s : Runner) (hand : Option Hand) → who c u ≡ used_by s hand → Rely g s (record { core = a; world = x.state; hand = hand }) (record { core = ticked a; world = later; hand = hand })
+  kept_here : (u : ℕ) (s : Runner) (hand : Option Hand) → who c u ≡ used_by s hand →
+      Rely g s (record { core = a; world = x.state; hand = hand }) (record { core = ticked a; world = later; hand = hand })
   kept_here u s hand runs =
       let k = kept_now moment c u a s hand at_c runs in
       let core = st.roles.core c u s hand runs in
@@ -77,7 +78,9 @@ module _ (moment : Moment none_rests)
         spare = spare_ticked hand a k.spare;
       }
 
-  kept_far : (d u : ℕ) (e : CoreState) (s : Runner) (hand : Option Hand) → d ≢ c → slice_get w.machine.cores d ≡ Some e → who d u ≡ used_by s hand → Rely g s (record { core = e; world = x.state; hand = hand }) (record { core = e; world = later; hand = hand })
+  kept_far : (d u : ℕ) (e : CoreState) (s : Runner) (hand : Option Hand) → d ≢ c → slice_get w.machine.cores d ≡ Some e →
+      who d u ≡ used_by s hand → Rely g s (record { core = e; world = x.state; hand = hand })
+      (record { core = e; world = later; hand = hand })
   kept_far d u e s hand ne at runs =
       let k = kept_now moment d u e s hand at runs in
       let core = st.roles.core d u s hand runs in
@@ -137,7 +140,8 @@ module _ (moment : Moment none_rests)
         far_steps = λ d u ne. refl;
         stand = λ u m. absurd (false_true m);
         links = st.links;
-        wired = wired_still g who who w.machine watched_ticked.machine c a (ticked a) x.state later same_transfers at_c refl refl refl st.wired;
+        wired = wired_still g who who w.machine watched_ticked.machine c a (ticked a) x.state later same_transfers at_c refl refl
+            refl st.wired;
         alone = λ u s hand transfer m at its. absurd (false_true m);
         kept = λ u s hand m runs. kept_here u s hand runs;
         far_kept = λ d u e s hand ne at runs. kept_far d u e s hand ne at runs;

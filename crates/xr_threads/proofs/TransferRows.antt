@@ -54,7 +54,8 @@ module _ {moment : Moment none_rests} {thread_at : ThreadAt moment None} (branch
 
   -- the thread is at the next step of its transfer
   later_steps : (phase later : Phase) (j fewer : ℕ) → steps_left later + j + cost g r ≤ fewer → (h : InTransfer g r (in_phase channel side phase) branch.items j now) → GoesWith later channel h.pos branch.items →
-      TakesSteps g r channel side h.pos (acts_left later) (IsBehind g r (items_behind later branch.items) j) (h.pc + 1) h.regs → (es : List ChanEnd) →
+      TakesSteps g r channel side h.pos (acts_left later) (IsBehind g r (items_behind later branch.items) j) (h.pc + 1) h.regs →
+      (es : List ChanEnd) →
       StandsWith g (record r { transfer = Some (in_phase channel side later) }) false (Some (in_phase channel side later)) branch.items fewer (record { core = step.left g r a h.pc h.regs h.regs h.here es; world = x.state; hand = None })
   later_steps phase later j fewer few h goes steps es =
       let next = Some (in_phase channel side later) in (

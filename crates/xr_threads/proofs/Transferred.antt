@@ -55,7 +55,8 @@ module _ (g : Setting) (r : Runner) (transfer : Option Transfer) where
   steps_as channel side pos acts items j pc regs h = acts_map (home g r) r.thread (end_place g r channel side) (running r.tie pc regs) pos acts (IsBehind g r items j) (IsBehind g s items j) (behind_as items j) pc regs h
 
   -- the thread is inside some transfer
-  pub inside_as : (which : Transfer) (items : List Item) (j : ℕ) (z : ThreadView) → r.footprint ≡ footprint_of items → InTransfer g r which items j z → InTransfer g s which items j z
+  pub inside_as : (which : Transfer) (items : List Item) (j : ℕ) (z : ThreadView) → r.footprint ≡ footprint_of items →
+      InTransfer g r which items j z → InTransfer g s which items j z
   inside_as which items j z same h = record {
     pos = h.pos;
     on_time = h.on_time;

@@ -101,13 +101,15 @@ module _ {moment : Moment none_rests} {thread_at : ThreadAt moment None} (branch
     less : IsWithin (footprint_of h.items) r.footprint
     less = subst (IsWithin (footprint_of h.items)) (sym (stand.footprint ∙ ap (λ (b : Branch). footprint_of b.items) (sym (same_branch went))))
         (within_of_uses h.items h.acts.branch.items
-        (uses_less g.program g.stimulus x.state h.acts.world h.acts.action st.lawful h.acts.acted r.branch h.acts.branch (record h.acts.branch { items = h.items }) h.acts.known
+        (uses_less g.program g.stimulus x.state h.acts.world h.acts.action st.lawful h.acts.acted r.branch h.acts.branch
+        (record h.acts.branch { items = h.items }) h.acts.known
         (ap (λ l. slice_get l r.branch) h.acts.is_next.branches ∙ Rattle.xl_expr.proofs.Lists.get_set_same x.state.branches r.branch h.acts.branch (record h.acts.branch { items = h.items }) h.acts.known)))
 
     abbrev pub went_watched : Watched
     went_watched = watched_on thread_at went (rests_alone c t)
 
-    went_stand : Stand g (shrunk r h.items) (rests_alone c t c t) None h.left h.acts.world (went_watched.lives c t) (told_by g.program g.stimulus x (h.acts.action ∷ []) h.acts.world).actions (record h.acts.branch { items = h.items })
+    went_stand : Stand g (shrunk r h.items) (rests_alone c t c t) None h.left h.acts.world (went_watched.lives c t)
+        (told_by g.program g.stimulus x (h.acts.action ∷ []) h.acts.world).actions (record h.acts.branch { items = h.items })
     went_stand =
         let further = h.jumps + cost g r in
         let z : ThreadView = record { core = h.left; world = h.acts.world; hand = None } in
@@ -118,7 +120,14 @@ module _ {moment : Moment none_rests} {thread_at : ThreadAt moment None} (branch
           family = ap (λ (b : Branch). b.family) (same_branch went) ∙ stand.family;
           footprint = refl;
           parents = parents_behind went;
-          thread = record { thread = running_so (is_watching h.items) r.tie h.rest.pc h.rest.regs; there = h.rest.here; tied = refl; events = events_on h.acts.branch.mode h.items (is_watching h.items) h.acts.mode refl; is = subst (λ m. ThreadIs r.parents m Rattle.xs_instr.specs.declared.state.Mode.TheVariants.Running) (sym h.acts.mode) refl };
+          thread = record {
+            thread = running_so (is_watching h.items) r.tie h.rest.pc h.rest.regs;
+            there = h.rest.here;
+            tied = refl;
+            events = events_on h.acts.branch.mode h.items (is_watching h.items) h.acts.mode refl;
+            is = subst
+                (λ m. ThreadIs r.parents m Rattle.xs_instr.specs.declared.state.Mode.TheVariants.Running) (sym h.acts.mode) refl;
+          };
           in_hand = empty refl;
           sides = ap (λ (b : Branch). b.sides) (same_branch went) ∙ stand.sides;
           inside = ap (λ (b : Branch). b.inside) (same_branch went) ∙ stand.inside;
@@ -153,7 +162,8 @@ module _ {moment : Moment none_rests} {thread_at : ThreadAt moment None} (branch
     abbrev pub erring_watched : Watched
     erring_watched = watched_on thread_at erring none_rests
 
-    erring_stand : Stand g (shrunk r []) false None (trapped a r.thread) h.acts.world (erring_watched.lives c t) (told_by g.program g.stimulus x (h.acts.action ∷ []) h.acts.world).actions (failed h.acts.branch)
+    erring_stand : Stand g (shrunk r []) false None (trapped a r.thread) h.acts.world (erring_watched.lives c t)
+        (told_by g.program g.stimulus x (h.acts.action ∷ []) h.acts.world).actions (failed h.acts.branch)
     erring_stand =
         let t' = trap_leaves g r c a x.state stand.thread.thread stand.thread.there in
         record {
@@ -161,7 +171,13 @@ module _ {moment : Moment none_rests} {thread_at : ThreadAt moment None} (branch
           family = ap (λ (b : Branch). b.family) (same_branch erring) ∙ stand.family;
           footprint = refl;
           parents = parents_behind erring;
-          thread = record { thread = record stand.thread.thread { mode = Trapped }; there = t'.there; tied = stand.thread.tied; events = tt; is = trapped_is r.parents };
+          thread = record {
+            thread = record stand.thread.thread { mode = Trapped };
+            there = t'.there;
+            tied = stand.thread.tied;
+            events = tt;
+            is = trapped_is r.parents;
+          };
           in_hand = empty refl;
           sides = ap (λ (b : Branch). b.sides) (same_branch erring) ∙ stand.sides;
           inside = ap (λ (b : Branch). b.inside) (same_branch erring) ∙ stand.inside;
@@ -237,7 +253,8 @@ module _ {moment : Moment none_rests} {thread_at : ThreadAt moment None} (branch
     abbrev pub waiting_watched : Watched
     waiting_watched = watched_on thread_at waiting none_rests
 
-    waiting_stand : Stand g (shrunk r []) false None h.left h.acts.world (waiting_watched.lives c t) (told_by g.program g.stimulus x (h.acts.action ∷ []) h.acts.world).actions (finished h.acts.branch)
+    waiting_stand : Stand g (shrunk r []) false None h.left h.acts.world (waiting_watched.lives c t)
+        (told_by g.program g.stimulus x (h.acts.action ∷ []) h.acts.world).actions (finished h.acts.branch)
     waiting_stand =
         let th = waits_thread (slice_get h.left.threads r.thread) refl h.waits in
         record {
@@ -245,7 +262,14 @@ module _ {moment : Moment none_rests} {thread_at : ThreadAt moment None} (branch
           family = ap (λ (b : Branch). b.family) (same_branch waiting) ∙ stand.family;
           footprint = refl;
           parents = parents_behind waiting;
-          thread = record { thread = th.0; there = th.1; tied = th.2.tied ∙ sym h.tied; events = th.2.no_events; is = subst (λ ps. ThreadIs ps ended th.0.mode) (sym h.outermost) th.2.waits };
+          thread = record {
+            thread = th.0;
+            there = th.1;
+            tied = th.2.tied ∙ sym h.tied;
+            events = th.2.no_events;
+            is = subst
+                (λ ps. ThreadIs ps ended th.0.mode) (sym h.outermost) th.2.waits;
+          };
           in_hand = empty refl;
           sides = ap (λ (b : Branch). b.sides) (same_branch waiting) ∙ stand.sides;
           inside = ap (λ (b : Branch). b.inside) (same_branch waiting) ∙ stand.inside;

@@ -18,7 +18,8 @@ use Rattle.xr_threads.specs.Turns.{EndOf, ItemsFrom, Rest, is_watching}
 use Rattle.xr_threads.proofs.Stands.{stands_unwatched}
 
 -- the code of no item waits for an event
-pub code_unwatched : (places : Plan) (image : Code) (sides : Sides) (End : (pc j : ℕ) → Type 0) (items : List Item) (exits : List Exit) (pc j : ℕ) → ItemsAt places image sides End items exits pc j → is_watching items ≡ false
+pub code_unwatched : (places : Plan) (image : Code) (sides : Sides) (End : (pc j : ℕ) → Type 0) (items : List Item) (exits : List Exit)
+    (pc j : ℕ) → ItemsAt places image sides End items exits pc j → is_watching items ≡ false
 code_unwatched places image sides End [] exits pc j h = refl
 code_unwatched places image sides End (does s ∷ rest) exits pc j h = refl
 code_unwatched places image sides End (says i ∷ rest) exits pc j h = refl
@@ -46,11 +47,13 @@ nothing_unwatched (fixed i v counter ∷ rest) h = refl
 nothing_unwatched (ends ∷ rest) h = refl
 
 -- so a thread that takes none stands as it should at such items
-pub here_at : (items : List Item) {o : Option Thread} {tie : Option ℕ} {pc : ℕ} {regs : Regs} → is_watching items ≡ false → o ≡ Some (running tie pc regs) → o ≡ Some (running_so (is_watching items) tie pc regs)
+pub here_at : (items : List Item) {o : Option Thread} {tie : Option ℕ} {pc : ℕ} {regs : Regs} → is_watching items ≡ false →
+    o ≡ Some (running tie pc regs) → o ≡ Some (running_so (is_watching items) tie pc regs)
 here_at items {tie = tie} {pc = pc} {regs = regs} none here = here ∙ ap (λ (bit : Bool). Some (running_so bit tie pc regs)) (sym none)
 
 -- and the other way round
-pub here_from : (items : List Item) {o : Option Thread} {tie : Option ℕ} {pc : ℕ} {regs : Regs} → is_watching items ≡ false → o ≡ Some (running_so (is_watching items) tie pc regs) → o ≡ Some (running tie pc regs)
+pub here_from : (items : List Item) {o : Option Thread} {tie : Option ℕ} {pc : ℕ} {regs : Regs} → is_watching items ≡ false →
+    o ≡ Some (running_so (is_watching items) tie pc regs) → o ≡ Some (running tie pc regs)
 here_from items {tie = tie} {pc = pc} {regs = regs} none here = here ∙ ap (λ (bit : Bool). Some (running_so bit tie pc regs)) none
 
 -- a branch that runs says whether its thread takes events

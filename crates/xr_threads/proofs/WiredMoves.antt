@@ -84,7 +84,9 @@ pub record Moves (g : Setting) (who : Roles) (c t : ℕ) (r s : Runner) (channel
   pub over : s.transfer ≡ None → phase ≡ between
   pub mine : (d u : ℕ) → IsTransferring who d u channel side → (d ≡ c) × (u ≡ t)
 
-module _ (g : Setting) (lines : AreLines g) (who : Roles) (m : Machine) (world : World) (h : AreWired g who m world) (c t : ℕ) (a : CoreState) (at_c : slice_get m.cores c ≡ Some a) (r : Runner) (hand : Option Hand) (runs_r : who c t ≡ used_by r hand) (s : Runner) (hand' : Option Hand)
+module _ (g : Setting) (lines : AreLines g) (who : Roles) (m : Machine) (world : World) (h : AreWired g who m world) (c t : ℕ)
+    (a : CoreState) (at_c : slice_get m.cores c ≡ Some a) (r : Runner) (hand : Option Hand) (runs_r : who c t ≡ used_by r hand)
+    (s : Runner) (hand' : Option Hand)
     (channel : ℕ) (side : Side) (line : ℕ) (is_line : IsLine g.program line channel) (on_core : AreSidesOn g.program channel c) (phase : Phase) (moves : Moves g who c t r s channel side phase) where
   abbrev who' : Roles
   who' = with_role who c t (used_by s hand')
@@ -184,7 +186,8 @@ module _ (g : Setting) (lines : AreLines g) (who : Roles) (m : Machine) (world :
               in_piece d u (still d u k x (not_here d u i) i) core (elsewhere l x ne ∙ e)
               (late_elsewhere h.ghosts line side (spot phase false) l x ne ∙ late)
           from (at_rest nobody e late) =
-              at_rest (λ d u i. ⊎_elim (λ own. ne (on_line own.1, own.2)) (λ other. nobody d u other.1) (is_now d u k x i)) (elsewhere l x ne ∙ e)
+              at_rest (λ d u i. ⊎_elim (λ own. ne (on_line own.1, own.2)) (λ other. nobody d u other.1) (is_now d u k x i))
+              (elsewhere l x ne ∙ e)
               (late_elsewhere h.ghosts line side (spot phase false) l x ne ∙ late)
 
       by : (l ≡ line) ⊎ (l ≢ line) → (x ≡ side) ⊎ (x ≢ side) → Stands l k x
@@ -199,7 +202,8 @@ module _ (g : Setting) (lines : AreLines g) (who : Roles) (m : Machine) (world :
               (λ d u i.
               ⊎_elim
               (λ own. none-some (in_phase channel side phase) (sym none ∙ own.3))
-              (λ other. other.0 (moves.mine d u (subst (λ v. IsTransferring who d u channel v) f (subst (λ v. IsTransferring who d u v x) k_is other.1))))
+              (λ other. other.0 (moves.mine d u
+              (subst (λ v. IsTransferring who d u channel v) f (subst (λ v. IsTransferring who d u v x) k_is other.1))))
               (is_now d u k x i))
               (here_is l x e f ∙ ap (λ v. spot v false) (moves.over none)) (late_is l x e f)
           here_stands (Some transfer) is =
@@ -234,14 +238,17 @@ module _ (g : Setting) (lines : AreLines g) (who : Roles) (m : Machine) (world :
 
   -- what the row leaves of the core's ends, and the program of the inboxes
   module _ (left : CoreState) (m' : Machine) (world' : World) (is : m'.cores ≡ slice_set m.cores c left) where
-    ends_still : length left.ends ≡ length a.ends → (d : ℕ) (b : CoreState) → slice_get m'.cores d ≡ Some b → length b.ends ≡ (parts_in g.image.cores d).ends
+    ends_still : length left.ends ≡ length a.ends → (d : ℕ) (b : CoreState) → slice_get m'.cores d ≡ Some b →
+        length b.ends ≡ (parts_in g.image.cores d).ends
     ends_still size d b at =
         ⊎_elim
         (λ (set : (d ≡ c) × (b ≡ left)). ap (λ (v : CoreState). length v.ends) set.1 ∙ size ∙ h.ends c a at_c ∙ ap (λ k. (parts_in g.image.cores k).ends) (sym set.0))
         (λ (old : (d ≢ c) × (slice_get m.cores d ≡ Some b)). h.ends d b old.1)
         (get_set_cases m.cores c d a left b at_c (ap (λ l. slice_get l d) (sym is) ∙ at))
 
-    pub wired_moves : length left.ends ≡ length a.ends → length world'.inboxes ≡ length world.inboxes → Local g.image.chans (slice_set m.cores c left) (boxes_in g.program world'.inboxes) (moved_to h.ghosts line side (spot phase false) []) → AreWired g (with_role who c t (used_by s hand')) m' world'
+    pub wired_moves : length left.ends ≡ length a.ends → length world'.inboxes ≡ length world.inboxes →
+        Local g.image.chans (slice_set m.cores c left) (boxes_in g.program world'.inboxes)
+        (moved_to h.ghosts line side (spot phase false) []) → AreWired g (with_role who c t (used_by s hand')) m' world'
     wired_moves size long local = record {
       ghosts = next;
       local = subst (λ l. Local g.image.chans l (boxes_in g.program world'.inboxes) next) (sym is) local;

@@ -94,7 +94,8 @@ module _ (g : Setting) (who who' : Roles) (as_before : TransfersAsBefore who who
 
 -- a core steps, and leaves its ends
 pub wired_still : (g : Setting) (who who' : Roles) (m m' : Machine) (c : ℕ) (a b : CoreState) (x y : World) → TransfersAsBefore who who' →
-    slice_get m.cores c ≡ Some a → m'.cores ≡ slice_set m.cores c b → b.ends ≡ a.ends → y.inboxes ≡ x.inboxes → AreWired g who m x → AreWired g who' m' y
+    slice_get m.cores c ≡ Some a → m'.cores ≡ slice_set m.cores c b → b.ends ≡ a.ends → y.inboxes ≡ x.inboxes → AreWired g who m x →
+    AreWired g who' m' y
 wired_still g who who' m m' c a b x y as_before was step left same h =
     wired_as g who who' as_before m' x y same (record {
       ghosts = h.ghosts;
@@ -102,7 +103,8 @@ wired_still g who who' m m' c a b x y as_before was step left same h =
       long = h.long;
       ends = λ d e at.
           ⊎_elim
-          (λ (set : (d ≡ c) × (e ≡ b)). ap (λ (f : CoreState). length f.ends) set.1 ∙ ap length left ∙ h.ends c a was ∙ ap (λ k. (parts_in g.image.cores k).ends) (sym set.0))
+          (λ (set : (d ≡ c) × (e ≡ b)). ap (λ (f : CoreState). length f.ends) set.1 ∙ ap length left ∙ h.ends c a was ∙ ap
+          (λ k. (parts_in g.image.cores k).ends) (sym set.0))
           (λ (old : (d ≢ c) × (slice_get m.cores d ≡ Some e)). h.ends d e old.1)
           (get_set_cases m.cores c d a b e was (ap (λ l. slice_get l d) (sym step) ∙ at));
       listed = h.listed;
@@ -114,13 +116,15 @@ wired_still g who who' m m' c a b x y as_before was step left same h =
     ends_same k =
         ap (λ l. ends_in (slice_get l k)) step
         ∙ ⊎_elim
-        (λ (is : k ≡ c). ap (λ n. ends_in (slice_get (slice_set m.cores c b) n)) is ∙ ap ends_in (get_set_same m.cores c a b was) ∙ left ∙ ap ends_in (sym was) ∙ ap (λ n. ends_in (slice_get m.cores n)) (sym is))
+        (λ (is : k ≡ c). ap (λ n. ends_in (slice_get (slice_set m.cores c b) n)) is ∙ ap ends_in (get_set_same m.cores c a b was) ∙ left ∙
+        ap ends_in (sym was) ∙ ap (λ n. ends_in (slice_get m.cores n)) (sym is))
         (λ (ne : k ≢ c). ap ends_in (get_set_other m.cores c k b ne))
         (cases_eq k c)
 
 -- A side's spot, where a thread is inside a transfer there, and where none is.
 module _ (g : Setting) (who : Roles) (m : Machine) (x : World) (h : AreWired g who m x) where
-  pub wired_inside : (core thread at : ℕ) (r : Runner) (hand : Option Hand) (transfer : Transfer) → who core thread ≡ used_by r hand → r.transfer ≡ Some transfer → IsLine g.program at transfer.channel →
+  pub wired_inside : (core thread at : ℕ) (r : Runner) (hand : Option Hand) (transfer : Transfer) → who core thread ≡ used_by r hand →
+      r.transfer ≡ Some transfer → IsLine g.program at transfer.channel →
       h.ghosts.spots at transfer.side ≡ spot transfer.phase false
   wired_inside core thread at r hand transfer runs is on = by (h.stances at transfer.channel transfer.side on)
     where
@@ -131,12 +135,14 @@ module _ (g : Setting) (who : Roles) (m : Machine) (x : World) (h : AreWired g w
           h.ghosts.spots at transfer.side ≡ spot transfer.phase false
       by (in_piece d u i on_core e late) =
           let one = h.one core thread d u transfer.channel transfer.side its i in
-          let runner : r ≡ i.runner = same_runner r i.runner hand i.hand (sym runs ∙ sym (ap (λ k. who k u) one.0 ∙ ap (who core) one.1) ∙ i.runs) in
+          let runner : r ≡ i.runner = same_runner r i.runner hand i.hand
+          (sym runs ∙ sym (ap (λ k. who k u) one.0 ∙ ap (who core) one.1) ∙ i.runs) in
           let same : transfer ≡ i.transfer = same_Some transfer i.transfer (sym is ∙ ap (λ (k : Runner). k.transfer) runner ∙ i.is) in
           e ∙ ap (λ (k : Transfer). spot k.phase false) (sym same)
       by (at_rest nobody e late) = absurd (nobody core thread its)
 
-  pub wired_between : (at c : ℕ) (side : Side) → IsLine g.program at c → ((core thread : ℕ) → IsTransferring who core thread c side → ⊥) → h.ghosts.spots at side ≡ spot between false
+  pub wired_between : (at c : ℕ) (side : Side) → IsLine g.program at c → ((core thread : ℕ) → IsTransferring who core thread c side → ⊥) →
+      h.ghosts.spots at side ≡ spot between false
   wired_between at c side on nobody = by (h.stances at c side on)
     where
       by : Stance g who c side (h.ghosts.spots at side) (h.ghosts.late at (other_side side)) → h.ghosts.spots at side ≡ spot between false

@@ -79,15 +79,20 @@ index_within len i pos (error kind p) h = absurd (cc)
 
 module _ (g : Setting) (r : Runner) (laid : IsLaidOut g r) where
   -- the word at a place's address is one that the runner may change
-  place_changes : (words : List ℕ) (store : Store) → Holds (places g r.core) r.footprint.uses 0 words store → (p : kernel.Place) (i address : ℕ) → HasPlace (places g r.core) r.footprint.uses p → r.footprint.changes (variable_of p) ≡ true → index_in store p ≡ word i → IsAddress (places g r.core) (relied g r) r.stack (4 * 0) words p i address → MayChange g r (address / 4)
+  place_changes : (words : List ℕ) (store : Store) → Holds (places g r.core) r.footprint.uses 0 words store →
+      (p : kernel.Place) (i address : ℕ) → HasPlace (places g r.core) r.footprint.uses p →
+      r.footprint.changes (variable_of p) ≡ true → index_in store p ≡ word i →
+      IsAddress (places g r.core) (relied g r) r.stack (4 * 0) words p i address → MayChange g r (address / 4)
   place_changes words store holds (kernel.word v) i address (found, known, some, uses) changes is at_address =
       let near = laid.frame.near v found known in
-      let placed = subst (λ (q : VarAt). WordAt (places g r.core) (relied g r) r.stack (4 * 0) words q address) near.1.place (subst (λ o. OfWord (places g r.core) (relied g r) r.stack (4 * 0) words o address) known at_address) in
+      let placed = subst (λ (q : VarAt). WordAt (places g r.core) (relied g r) r.stack (4 * 0) words q address) near.1.place
+      (subst (λ o. OfWord (places g r.core) (relied g r) r.stack (4 * 0) words o address) known at_address) in
       let low = laid.frame.low v near.0 0 found near.1 some in
       of_variable v near.0 0 found near.1 changes some (omega arith)
   place_changes words store holds (kernel.element v x pos) i address (has_x, (found, known, uses)) changes is at_address =
       let near = laid.frame.near v found known in
-      let placed = subst (λ (q : VarAt). ElementAt (places g r.core) (relied g r) r.stack (4 * 0) words q i address) near.1.place (subst (λ o. OfElement (places g r.core) (relied g r) r.stack (4 * 0) words o i address) known at_address) in
+      let placed = subst (λ (q : VarAt). ElementAt (places g r.core) (relied g r) r.stack (4 * 0) words q i address) near.1.place
+      (subst (λ o. OfElement (places g r.core) (relied g r) r.stack (4 * 0) words o i address) known at_address) in
       let len = length (words_of store v) in
       let size = holds.lengths v near.0 found near.1 uses in
       let lt : i < found.words = let w = index_within len i pos (eval store x) is in omega arith in
@@ -100,16 +105,24 @@ target_changed (kernel.word v) = eq-eqb v v refl
 target_changed (kernel.element v index pos) = or_left (nat_eq v v) (by_expression (change v) index) (eq-eqb v v refl)
 
 -- An item by which the branch stores a word at a place.
-module _ (g : Setting) (r : Runner) (laid : IsLaidOut g r) (item : Item) (place : kernel.Place) (rest : List Item) (pc pc' j : ℕ) (uses_place : UsesAt g r place) (changes : r.footprint.changes (variable_of place) ≡ true) (changed_first : by_item (change (variable_of place)) item ≡ true) (rest_fits : ItemsFit g r rest) (q : ThreadView) (behind : (regs' : Regs) (core' : CoreState) → HasBases g r regs' → SameStamps g r.core rest q.core core' → StandsAt g r rest j pc' regs' core') where
+module _ (g : Setting) (r : Runner) (laid : IsLaidOut g r) (item : Item) (place : kernel.Place) (rest : List Item) (pc pc' j : ℕ)
+    (uses_place : UsesAt g r place) (changes : r.footprint.changes (variable_of place) ≡ true)
+    (changed_first : by_item (change (variable_of place)) item ≡ true) (rest_fits : ItemsFit g r rest) (q : ThreadView)
+    (behind : (regs' : Regs) (core' : CoreState) → HasBases g r regs' → SameStamps g r.core rest q.core core' →
+    StandsAt g r rest j pc' regs' core') where
   -- what its step is there
   abbrev pub Stores : World → Branch → (v : ℕ) → Type 0
   Stores w branch v =
       does_item (step_of g.program g.stimulus w r.branch branch rest) item ≡ stored (step_of g.program g.stimulus w r.branch branch rest) place v
 
   -- at the instruction that writes the word
-  write_goes : (z : ThreadView) (regs : Regs) (v i address : ℕ) → HasBases g r regs → q.hand ≡ None → (has : Has g r (item ∷ rest) q) → Stores q.world has.branch v → index_in q.world.store place ≡ word i → IsAddress (places g r.core) (relied g r) r.stack (4 * 0) q.core.words place i address → Writes (home g r) (relied g r) r.stack r.thread (running r.tie pc regs) z.core.words address v pc' q.core → Goes g r j q
+  write_goes : (z : ThreadView) (regs : Regs) (v i address : ℕ) → HasBases g r regs → q.hand ≡ None → (has : Has g r (item ∷ rest) q) →
+      Stores q.world has.branch v → index_in q.world.store place ≡ word i →
+      IsAddress (places g r.core) (relied g r) r.stack (4 * 0) q.core.words place i address →
+      Writes (home g r) (relied g r) r.stack r.thread (running r.tie pc regs) z.core.words address v pc' q.core → Goes g r j q
   write_goes z regs v i address bases no_hand has is is_index at_address w =
-      own_goes g r j q pc' w.regs words made bases' no_hand item rest rest store has acted same holds room j (λ core still. behind w.regs core bases' still) rest_fits (omega arith)
+      own_goes g r j q pc' w.regs words made bases' no_hand item rest rest store has acted same holds room j
+      (λ core still. behind w.regs core bases' still) rest_fits (omega arith)
     where
       words : List ℕ
       words = word_put q.core.words address v
@@ -118,7 +131,8 @@ module _ (g : Setting) (r : Runner) (laid : IsLaidOut g r) (item : Item) (place 
       store = changed q.world.store (variable_of place) i v
 
       mine : MayChange g r (address / 4)
-      mine = place_changes g r laid q.core.words q.world.store has.holds.holds place i address (place_seen g r laid place uses_place) changes is_index at_address
+      mine = place_changes g r laid q.core.words q.world.store has.holds.holds place i address (place_seen g r laid place uses_place)
+          changes is_index at_address
 
       made : MakesOwn g r q pc' w.regs words
       made = record {
@@ -139,16 +153,19 @@ module _ (g : Setting) (r : Runner) (laid : IsLaidOut g r) (item : Item) (place 
           ∙ stored_is (step_of g.program g.stimulus q.world r.branch has.branch rest) place v i is_index
 
       same : (u : ℕ) → by_item (change u) item ≡ false → words_of store u ≡ words_of q.world.store u
-      same u c = get_or-set_other q.world.store (variable_of place) u (slice_set (words_of q.world.store (variable_of place)) i v) [] (λ e. let f : true ≡ false = sym changed_first ∙ ap (λ v. by_item (change v) item) (sym e) ∙ c in absurd (cc))
+      same u c = get_or-set_other q.world.store (variable_of place) u (slice_set (words_of q.world.store (variable_of place)) i v) []
+          (λ e. let f : true ≡ false = sym changed_first ∙ ap (λ v. by_item (change v) item) (sym e) ∙ c in absurd (cc))
 
       holds : Holds (places g r.core) r.footprint.uses 0 words store
-      holds = store_holds (places g r.core) (relied g r) r.footprint.uses r.stack 0 laid.frame q.core.words q.world.store has.holds.holds place i address v (place_seen g r laid place uses_place) is_index at_address
+      holds = store_holds (places g r.core) (relied g r) r.footprint.uses r.stack 0 laid.frame q.core.words q.world.store has.holds.holds
+          place i address v (place_seen g r laid place uses_place) is_index at_address
 
       room : r.stack + temporary ≤ length words
       room = let e = length-set q.core.words (address / 4) v in let h = has.holds.room in omega arith
 
   -- where the code has come the turn is next: it writes the word, or traps by the index's error
-  pub store_turns : (z y : ThreadView) (regs : Regs) (v : ℕ) (i : Value) → HasBases g r regs → Rely g r y q → Since g r (IsApart r.stack) any_part z q → q.hand ≡ None →
+  pub store_turns : (z y : ThreadView) (regs : Regs) (v : ℕ) (i : Value) → HasBases g r regs → Rely g r y q →
+      Since g r (IsApart r.stack) any_part z q → q.hand ≡ None →
       (has : Has g r (item ∷ rest) q) → Stores q.world has.branch v → index_in z.world.store place ≡ i →
       StoreOutcome (plan g r).vars (home g r) (relied g r) r.stack r.thread (running r.tie pc regs) z.core.words place v pc' i y.core → Turn g r j q
   store_turns z y regs v i bases kept since no_hand has is is_index outcome = by i is_index outcome
@@ -160,8 +177,10 @@ module _ (g : Setting) (r : Runner) (laid : IsLaidOut g r) (item : Item) (place 
       by (word i) f (address, at_address, writes) =
           let w = writes q.core (core_kept g r kept) in
           let at_base = subst (λ d. IsAddress (plan g r).vars (relied g r) r.stack d z.core.words place i address) bases.base at_address in
-          let there = seen g r laid (λ b. IsAddress (plan_in (g.plans r.core) b.plan).vars (relied g r) r.stack (4 * b.base) z.core.words place i address) at_base in
-          let at_q = address_lasts (places g r.core) (relied g r) r.stack (4 * 0) z.core.words q.core.words z.world.store since.words place i address there in
+          let there = seen g r laid (λ b. IsAddress (plan_in (g.plans r.core) b.plan).vars (relied g r) r.stack (4 * b.base) z.core.words
+          place i address) at_base in
+          let at_q = address_lasts (places g r.core) (relied g r) r.stack (4 * 0) z.core.words q.core.words z.world.store since.words
+          place i address there in
           turn.goes_on (write_goes z regs v i address bases no_hand has is (index_is (word i) f) at_q w)
       by (error kind pos) f traps =
           let s = step_of g.program g.stimulus q.world r.branch has.branch rest in

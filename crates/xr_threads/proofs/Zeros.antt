@@ -113,10 +113,12 @@ module _ (g : Setting) (r : Runner) (v : ℕ) (laid : IsLaidOut g r) (is : IsCha
   stack_outside n is_n k lt i l e =
       let within : i < is.found.words = omega arith in
       let same : r.stack + k ≡ 0 + first + i = e ∙ index_is 0 first i (low i within) in
-      ⊎_elim (λ (below : 0 + first + i < r.stack). absurd (omega arith)) (λ (above : r.stack + temporary ≤ 0 + first + i). absurd (omega arith)) (laid.frame.apart v first i is.found near.1 within)
+      ⊎_elim (λ (below : 0 + first + i < r.stack). absurd (omega arith))
+      (λ (above : r.stack + temporary ≤ 0 + first + i). absurd (omega arith)) (laid.frame.apart v first i is.found near.1 within)
 
   -- nor a word of another variable
-  other_outside : (n : ℕ) → is.found.words ≡ n → (w m k : ℕ) (other : VarPlan) → IsNear (places g r.core) w m other → k < other.words → w ≢ v → IsOutside base n (0 + m + k)
+  other_outside : (n : ℕ) → is.found.words ≡ n → (w m k : ℕ) (other : VarPlan) → IsNear (places g r.core) w m other → k < other.words →
+      w ≢ v → IsOutside base n (0 + m + k)
   other_outside n is_n w m k other near' lt ne i l e =
       let within : i < is.found.words = omega arith in
       let same : 0 + m + k ≡ 0 + first + i = e ∙ index_is 0 first i (low i within) in
@@ -124,7 +126,9 @@ module _ (g : Setting) (r : Runner) (v : ℕ) (laid : IsLaidOut g r) (is : IsCha
 
   module _ (rest : List Item) (z : ThreadView) (k : ℕ) (is_k : is.found.words ≡ k + 1) where
     -- at the last store
-    module _ (x : ThreadView) (since : Since g r (IsOutside base (k + 1)) any_part z x) (zeros : (i : ℕ) → i < k → word_at x.core.words (address_at base i) ≡ Some 0) (there : (y : ℕ) × (word_at x.core.words (address_at base k) ≡ Some y)) (holds : HoldsStore g r z) where
+    module _ (x : ThreadView) (since : Since g r (IsOutside base (k + 1)) any_part z x)
+        (zeros : (i : ℕ) → i < k → word_at x.core.words (address_at base i) ≡ Some 0)
+        (there : (y : ℕ) × (word_at x.core.words (address_at base k) ≡ Some y)) (holds : HoldsStore g r z) where
       -- what the last store leaves in memory, and what the branch's step leaves in the store
       abbrev zero_words : List ℕ
       zero_words = word_put x.core.words (address_at base k) 0
@@ -149,25 +153,31 @@ module _ (g : Setting) (r : Runner) (v : ℕ) (laid : IsLaidOut g r) (is : IsCha
       is_zero i lt =
           ap (λ ws. slice_get ws (0 + first + i)) put_is
           ∙ ⊎_elim
-          (λ (e : i ≡ k). subst (λ n. slice_get (slice_set x.core.words (0 + first + k) 0) (0 + first + n) ≡ Some 0) (sym e) (get_set_same x.core.words (0 + first + k) there.0 0 (sym (word_is x.core.words 0 first k (low k (omega arith))) ∙ there.1)))
-          (λ (ne : i ≢ k). get_set_other x.core.words (0 + first + k) (0 + first + i) 0 (λ f. ne (omega arith)) ∙ sym (word_is x.core.words 0 first i (low i (omega arith))) ∙ zeros i (below i lt ne))
+          (λ (e : i ≡ k). subst (λ n. slice_get (slice_set x.core.words (0 + first + k) 0) (0 + first + n) ≡ Some 0) (sym e)
+          (get_set_same x.core.words (0 + first + k) there.0 0 (sym (word_is x.core.words 0 first k (low k (omega arith))) ∙ there.1)))
+          (λ (ne : i ≢ k). get_set_other x.core.words (0 + first + k) (0 + first + i) 0 (λ f. ne (omega arith)) ∙ sym
+          (word_is x.core.words 0 first i (low i (omega arith))) ∙ zeros i (below i lt ne))
           (cases_eq i k)
         where
           below : (i : ℕ) → i < k + 1 → i ≢ k → i < k
           below i lt ne = omega (arith, lt, ne)
 
       -- the words of another variable are as they were
-      is_other : (w m i y : ℕ) (other : VarPlan) → IsNear (places g r.core) w m other → r.footprint.uses w ≡ true → w ≢ v → slice_get (words_of x.world.store w) i ≡ Some y → slice_get zero_words (0 + m + i) ≡ Some y
+      is_other : (w m i y : ℕ) (other : VarPlan) → IsNear (places g r.core) w m other → r.footprint.uses w ≡ true → w ≢ v →
+          slice_get (words_of x.world.store w) i ≡ Some y → slice_get zero_words (0 + m + i) ≡ Some y
       is_other w m i y other near' uses ne h =
           let old : slice_get (words_of z.world.store w) i ≡ Some y = ap (λ ws. slice_get ws i) (sym (since.store w uses)) ∙ h in
           let within : i < other.words = let l = holds.holds.lengths w m other near' uses in let lt = slice_get_within (words_of z.world.store w) i y old in omega arith in
           ap (λ ws. slice_get ws (0 + m + i)) put_is
-          ∙ get_set_other x.core.words (0 + first + k) (0 + m + i) 0 (λ f. ne (laid.frame.disjoint w m i v first k other is.found near' near.1 within (omega arith) (omega arith)))
-          ∙ since.words (0 + m + i) (variable_relied g r w m i other near' uses within) (other_outside (k + 1) is_k w m i other near' within ne)
+          ∙ get_set_other x.core.words (0 + first + k) (0 + m + i) 0
+          (λ f. ne (laid.frame.disjoint w m i v first k other is.found near' near.1 within (omega arith) (omega arith)))
+          ∙ since.words (0 + m + i) (variable_relied g r w m i other near' uses within)
+          (other_outside (k + 1) is_k w m i other near' within ne)
           ∙ holds.holds.values w m i y other near' uses old
 
       -- memory has the words of the store, whichever the variable is
-      values : (w m i y : ℕ) (other : VarPlan) → IsNear (places g r.core) w m other → r.footprint.uses w ≡ true → slice_get (words_of zero_store w) i ≡ Some y → slice_get zero_words (0 + m + i) ≡ Some y
+      values : (w m i y : ℕ) (other : VarPlan) → IsNear (places g r.core) w m other → r.footprint.uses w ≡ true →
+          slice_get (words_of zero_store w) i ≡ Some y → slice_get zero_words (0 + m + i) ≡ Some y
       values w m i y other near' uses h = ⊎_elim same (λ (ne : w ≢ v). is_other w m i y other near' uses ne (ap (λ ws. slice_get ws i) (sym (words_other x.world.store v w (map zero_for (words_of x.world.store v)) ne)) ∙ h)) (cases_eq w v)
         where
           same : w ≡ v → slice_get zero_words (0 + m + i) ≡ Some y
@@ -181,7 +191,8 @@ module _ (g : Setting) (r : Runner) (v : ℕ) (laid : IsLaidOut g r) (is : IsCha
               ap (λ n. slice_get zero_words (0 + n + i)) m_is ∙ is_zero i lt ∙ ap Some (sym was.1)
 
       -- and no variable got longer or shorter
-      lengths : (w m : ℕ) (other : VarPlan) → IsNear (places g r.core) w m other → r.footprint.uses w ≡ true → other.words ≡ length (words_of zero_store w)
+      lengths : (w m : ℕ) (other : VarPlan) → IsNear (places g r.core) w m other → r.footprint.uses w ≡ true →
+          other.words ≡ length (words_of zero_store w)
       lengths w m other near' uses =
           let old = holds.holds.lengths w m other near' uses ∙ ap length (sym (since.store w uses)) in
           ⊎_elim
@@ -204,7 +215,8 @@ module _ (g : Setting) (r : Runner) (v : ℕ) (laid : IsLaidOut g r) (is : IsCha
 
     module _ (exits : List Exit) (j : ℕ) (pc' : ℕ) (regs : Regs) (bases : HasBases g r regs) (no_hand : z.hand ≡ None) (behind : ItemsFrom g r rest exits pc' j) (fits : ItemsFit g r rest) (has : Has g r (does (kernel.set_zero v) ∷ rest) z) where
       -- the last store is the branch's step
-      last_goes : (tie_pc : ℕ) (x : ThreadView) → Since g r (IsOutside base (k + 1)) any_part z x → WritesLast (home g r) (relied g r) r.thread (running r.tie tie_pc regs) z.core.words base k pc' x.core → Goes g r j x
+      last_goes : (tie_pc : ℕ) (x : ThreadView) → Since g r (IsOutside base (k + 1)) any_part z x →
+          WritesLast (home g r) (relied g r) r.thread (running r.tie tie_pc regs) z.core.words base k pc' x.core → Goes g r j x
       last_goes tie_pc x since w =
           let branch = has.branch in
           let runs : Runs x.world r.branch branch (does (kernel.set_zero v) ∷ rest) = runs_kept g r z x branch (does (kernel.set_zero v) ∷ rest) since.branch has.runs in
@@ -244,7 +256,8 @@ module _ (g : Setting) (r : Runner) (v : ℕ) (laid : IsLaidOut g r) (is : IsCha
               is_next = record {
                 clocks = refl;
                 branches = refl;
-                store = λ u unchanged. words_other x.world.store v u (map zero_for (words_of x.world.store v)) (λ e. differs u (subst (λ these. first_changes these u ≡ false) runs.items_are unchanged) e);
+                store = λ u unchanged. words_other x.world.store v u (map zero_for (words_of x.world.store v))
+                    (λ e. differs u (subst (λ these. first_changes these u ≡ false) runs.items_are unchanged) e);
                 trace = refl;
               };
               inboxes = refl;
@@ -263,7 +276,8 @@ module _ (g : Setting) (r : Runner) (v : ℕ) (laid : IsLaidOut g r) (is : IsCha
                 runs = record { known = next.known; running = next.running; items_are = refl };
                 core = has.core;
                 holds = record { holds = zero_holds x since w.zeros w.there has.holds; room = room x since w.zeros w.there has.holds };
-                ports = ports_last g r z y (λ p listed is_port. ports_since g r (IsOutside base (k + 1)) any_part z x since p listed is_port tt) has.ports;
+                ports = ports_last g r z y (λ p listed is_port. ports_since g r (IsOutside base (k + 1)) any_part z x since p listed
+                    is_port tt) has.ports;
               };
             };
           }
@@ -277,7 +291,8 @@ module _ (g : Setting) (r : Runner) where
   zero_leads v rest exits pc pc' j z regs laid code (is, counted) sided behind fits has here bases no_hand =
       leads_more g r (Turns g r j) (2 * (k + 1) + 1) (cost g r) z few
       (leads_as g r (λ y. AtLast y.core × Since g r (IsOutside (base g r v laid is) (k + 1)) any_part z y) (Turns g r j) (2 * (k + 1) + 1) z
-      (λ y h x kept. turn.goes_on (last_goes g r v laid is rest z k is_k exits j pc' regs bases no_hand behind fits has pc x (since_kept g r (IsOutside (base g r v laid is) (k + 1)) any_part h.1 kept) (h.0 x.core (core_kept g r kept))))
+      (λ y h x kept. turn.goes_on (last_goes g r v laid is rest z k is_k exits j pc' regs bases no_hand behind fits has pc x
+      (since_kept g r (IsOutside (base g r v laid is) (k + 1)) any_part h.1 kept) (h.0 x.core (core_kept g r kept))))
       (arrives g r (IsOutside (base g r v laid is) (k + 1)) (safe g r v laid is (k + 1) is_k) AtLast (2 * (k + 1) + 1) z (at_runs g r z pc regs here) way))
     where
       k : ℕ
@@ -297,7 +312,11 @@ module _ (g : Setting) (r : Runner) where
           let near' = near g r v laid is in
           let n = near'.0 in
           let b = base g r v laid is in
-          let from_near : StandsFrom (relied g r) regs.dp z.core.words (Near n) b = ap (λ d. address_at d n) (sym (bases.base ∙ ap (λ (k : Block). 4 * k.base) laid.block)) in
+          let from_near : StandsFrom (relied g r) regs.dp z.core.words (Near n) b = ap (λ d. address_at d n)
+          (sym (bases.base ∙ ap (λ (k : Block). 4 * k.base) laid.block)) in
           let from = subst (λ (p : VarAt). StandsFrom (relied g r) regs.dp z.core.words p b) (sym near'.1.place) from_near in
           subst (λ q. Within (home g r) (relied g r) (IsOutside b (k + 1)) r.thread (λ d. (c : CoreState) → own.Kept (relied g r) r.thread d c → WritesLast (home g r) (relied g r) r.thread (running r.tie pc regs) z.core.words b k q c) (2 * (k + 1) + 1) z.core) (sym code.end)
-          (code.so.last is.found k (unseen g r laid (λ k. var_in (plan_in (g.plans r.core) k.plan).vars v ≡ Some is.found) is.known) (ap (λ (p : VarAt). words_set p is.found.words) near'.1.place ∙ is_k) (home g r) (relied g r) r.thread b (running r.tie pc regs) z.core code.stand (runs_at g r z pc regs here) from (words_stand g r v laid is (k + 1) is_k z has.holds))
+          (code.so.last is.found k (unseen g r laid (λ k. var_in (plan_in (g.plans r.core) k.plan).vars v ≡ Some is.found) is.known)
+          (ap (λ (p : VarAt). words_set p is.found.words) near'.1.place ∙ is_k) (home g r) (relied g r) r.thread b
+          (running r.tie pc regs) z.core code.stand (runs_at g r z pc regs here) from
+          (words_stand g r v laid is (k + 1) is_k z has.holds))

@@ -32,7 +32,8 @@ use Rattle.xc_kernel.specs.declared.kernel.Timer.{Timer}
 -- What is so of a core of which threads are needed, whoever runs there: each thread of which it has need, with any footprint, is laid out, and has
 -- its temporary words; the variables, ports and timers are there.
 pub record IsCoreOf (g : Setting) (c : ℕ) : Type 0 where
-  pub laid : (r : Runner) → r.core ≡ c → r.thread < threads_on g.program c → r.block ≡ outside → r.stack ≡ temporary_of g.program c r.thread →
+  pub laid : (r : Runner) → r.core ≡ c → r.thread < threads_on g.program c → r.block ≡ outside →
+      r.stack ≡ temporary_of g.program c r.thread →
       ((v : ℕ) → r.footprint.changes v ≡ true → r.footprint.uses v ≡ true) → IsLaidOut g r
   pub room : (t : ℕ) → t < threads_on g.program c → temporary_of g.program c t + temporary ≤ (parts_in g.image.cores c).words
   pub stacks : (g.plans c).first_stack ≡ temporary_of g.program c 0

@@ -57,8 +57,8 @@ footprint_of items = record {
 abbrev pub everything : Footprint
 everything = record { uses = λ v. true; changes = λ v. true; ports = λ p. true; timers = λ t. true; channels = λ c. true }
 
--- What a thread's code sees the variables, ports and ends of its core by: dp names a word, and a plan of its own says the rest. Where it has none, that is
--- the core's plan.
+-- What a thread's code sees the variables, ports and ends of its core by: dp names a word, and a plan of its own says the rest. Where it
+-- has none, that is the core's plan.
 pub record Block : Type 0 where
   pub base : ℕ
   pub plan : Option Plan
@@ -75,9 +75,9 @@ plan_in of_core (Some own) = own
 abbrev pub places : Setting → (core : ℕ) → List (Option VarPlan)
 places g core = (g.plans core).vars
 
--- A hardware thread that runs a branch: its code stands in a block, and its temporary words begin at word `stack`. Its steps count for a family.
--- Other branches may wait for that one, the innermost first. It stands in sides of channels and inside transactions,
--- and its thread may be inside a transfer.
+-- A hardware thread that runs a branch: its code stands in a block, and its temporary words begin at word `stack`. Its steps count for a
+-- family. Other branches may wait for that one, the innermost first. It stands in sides of channels and inside transactions, and its
+-- thread may be inside a transfer.
 pub record Runner : Type 0 where
   pub core : ℕ
   pub thread : ℕ
@@ -222,8 +222,8 @@ module _ (g : Setting) (r : Runner) where
   IsMine (ResTimer n) = IsOwnTimer n
   IsMine (ResEnd n) = IsOwnEnd n
 
-  -- Its code stands in no other block, the variables of its core stand near, no two of them share a word, and none is a temporary one of the runner's. Its ports and its
-  -- channels' ends have the identifiers that the plan gives them.
+  -- Its code stands in no other block, the variables of its core stand near, no two of them share a word, and none is a temporary one of
+  -- the runner's. Its ports and its channels' ends have the identifiers that the plan gives them.
   pub record IsLaidOut : Type 0 where
     pub block : r.block ≡ outside
     pub frame : Frame (places g r.core) relied r.footprint.uses r.stack 0

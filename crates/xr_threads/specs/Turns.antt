@@ -143,7 +143,8 @@ pub record HoldsNames (core : ℕ) (syncs : List ℕ) (regs : Regs) : Type 0 whe
 abbrev pub SameStamps : Setting → (core : ℕ) → List Item → (a b : CoreState) → Type 0
 SameStamps g core (stores place v ∷ rest) a b = SameStamps g core rest a b
 SameStamps g core (stamps (resource.Port p) place v ∷ rest) a b =
-    (slice_get b.ports (port_number core g.program.ports p) ≡ slice_get a.ports (port_number core g.program.ports p)) × SameStamps g core rest a b
+    (slice_get b.ports (port_number core g.program.ports p) ≡ slice_get a.ports (port_number core g.program.ports p)) × SameStamps g
+    core rest a b
 SameStamps g core items a b = Unit {0}
 
 -- A piece of code on a channel: it puts a word out, or takes one in.
@@ -223,9 +224,9 @@ module _ (g : Setting) (r : Runner) where
   pub data WordAt (v pc begins : ℕ) (regs : Regs) (core : CoreState) : Type 0 where
     in_r0 : regs.r0 ≡ v → begins ≡ pc → WordAt v pc begins regs core
 
-  -- Where a thread stands between two own steps, at an index with these registers: at the code of its branch's items, with j jumps between them. A store
-  -- is what an earlier item left to be done: its word is at hand, and behind its code, with whatever registers, stands what comes next; the stamps that are stored then are
-  -- what they are now.
+  -- Where a thread stands between two own steps, at an index with these registers: at the code of its branch's items, with j jumps
+  -- between them. A store is what an earlier item left to be done: its word is at hand, and behind its code, with whatever registers,
+  -- stands what comes next; the stamps that are stored then are what they are now.
   abbrev pub StandsAt : List Item → (j pc : ℕ) → Regs → CoreState → Type 0
   StandsAt (stores place v ∷ rest) j pc regs core =
       (begins : ℕ) × (stored : ℕ) × WordAt v pc begins regs core × LinesAt (code g r) (Stores (plan g r).vars place R0) begins stored
@@ -478,7 +479,8 @@ module _ (g : Setting) (r : Runner) where
     pub pc : ℕ
     pub regs : Regs
     pub here : IsAt z pc regs
-    pub steps : TakesSteps transfer.channel transfer.side pos (acts_left transfer.phase) (IsBehind (items_behind transfer.phase items) j) pc regs
+    pub steps : TakesSteps transfer.channel transfer.side pos (acts_left transfer.phase)
+        (IsBehind (items_behind transfer.phase items) j) pc regs
     pub fits : ItemsFit g r items
     pub has : Has items z
 
