@@ -8,7 +8,7 @@ pub fn channels_begin()
 {}
 
 /// Where no token is at the end of a side that is in no piece and no transaction, its inbox is empty: a select may take its default.
-#[tactic(auto, using(crate::proofs::Ready::none_ready))]
+#[tactic(auto, using(crate::proofs::Laws::Ready::none_ready))]
 pub fn none_ready()
     ensures { NoneReady }
 {}

@@ -1,5 +1,5 @@
 use Rattle.xc_kernel.specs.Kernels.{kernel_of}
-use Rattle.xr_threads.proofs.Implementing.{implements, text_wholly, wholly_implements}
+use Rattle.xr_threads.proofs.Relation.Implementing.{implements, text_wholly, wholly_implements}
 use Rattle.xr_threads.proofs.compiler.compile.Goals as goal
 
 pub returns-clause-implements : goal.returns-clause-implements

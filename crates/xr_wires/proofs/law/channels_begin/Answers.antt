@@ -1,5 +1,5 @@
 use Rattle.xr_wires.proofs.law.channels_begin.Goals as goal
-use Rattle.xr_wires.proofs.Locals.{local_begins}
+use Rattle.xr_wires.proofs.Tokens.Locals.{local_begins}
 
 pub returns : goal.returns
 returns c = local_begins

@@ -1,0 +1,21 @@
+-- Transfers over channels: each row on an end, by the machine and by the program.
+pub mod Inboxes
+pub mod Ends
+pub mod EndSteps
+pub mod Worlds
+pub mod Protocols
+pub mod Wiring
+pub mod WiredMoves
+pub mod InTransfers
+pub mod OwnSide
+pub mod NoneInside
+pub mod OfferRows
+pub mod InputRows
+pub mod AnswerRows
+pub mod PieceStarts
+pub mod EndRows
+pub mod TransferRows
+pub mod TransferBegins
+pub mod TransferErrs
+pub mod OwnTransfers
+pub mod Advances

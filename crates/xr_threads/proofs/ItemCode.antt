@@ -1,0 +1,19 @@
+-- From where a thread stands at the code of an item to the own instruction of that item, a lemma for each kind of item.
+pub mod Items
+pub mod Leading
+pub mod Statements
+pub mod Evaluations
+pub mod Writes
+pub mod Assignments
+pub mod Tests
+pub mod Zeros
+pub mod Jumps
+pub mod BlockEnds
+pub mod OnEnds
+pub mod Outputs
+pub mod ChannelOutputs
+pub mod ChannelInputs
+pub mod Stores
+pub mod Par
+pub mod ParOpens
+pub mod ParCloses

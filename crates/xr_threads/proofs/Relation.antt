@@ -1,0 +1,25 @@
+-- What stands between the machine and the program, and what keeps it: who runs what, and what lasts while one core steps.
+pub mod CoreSteps
+pub mod Lasting
+pub mod Roots
+pub mod Seats
+pub mod SeatChanges
+pub mod Families
+pub mod Waiting
+pub mod Pools
+pub mod Usage
+pub mod Counts
+pub mod Sums
+pub mod Reserves
+pub mod PortDeclarations
+pub mod Sizes
+pub mod Links
+pub mod Sides
+pub mod Events
+pub mod Moments
+pub mod Ticks
+pub mod Agreement
+pub mod Together
+pub mod EachEvent
+pub mod Simulation
+pub mod Implementing

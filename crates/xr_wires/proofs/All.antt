@@ -1,0 +1,13 @@
+-- What stands between the sides of all channels of an image, and each row on an end.
+pub mod Wired
+pub mod Frames
+pub mod Chosen
+pub mod Rows
+pub mod Near
+pub mod NearPlain
+pub mod Pauses
+pub mod NearPauses
+pub mod Arrivals
+pub mod Moves
+pub mod Begins
+pub mod Example

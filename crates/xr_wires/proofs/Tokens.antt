@@ -1,0 +1,8 @@
+-- The tokens and credits at ends and on links, and how a row or an arrival changes them.
+pub mod Views
+pub mod Changes
+pub mod Credits
+pub mod Bounds
+pub mod Lines
+pub mod Lengths
+pub mod Locals
