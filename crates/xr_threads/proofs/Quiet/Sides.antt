@@ -211,7 +211,7 @@ module _ (moment : Moment none_rests)
   each_stuck line channel side is_line = by (st.wired.stances line channel side is_line)
     where
       by : Stance g who channel side (ghosts.spots line side) (ghosts.late line (other_side side)) → IsStuck line channel side
-      by (in_piece d u i on_core e late) = stuck_of line channel side is_line d u i
+      by (in_piece d u i its_core e late) = stuck_of line channel side is_line d u i
       by (at_rest nobody e late) = record {
         phase = between;
         plain = tt;
