@@ -104,7 +104,7 @@ module _ (g : Setting) (r : Runner) where
     pub world : z.world ≡ y.world
     pub roots : z.core.roots ≡ y.core.roots
     pub channel_ends : z.core.ends ≡ y.core.ends
-    pub touched : Guarantee y z
+    pub guarantee : Guarantee y z
     pub hand : HandChange y z
     pub was : StillRuns y.core
     pub on : StillRuns z.core

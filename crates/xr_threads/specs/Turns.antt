@@ -332,7 +332,7 @@ module _ (g : Setting) (r : Runner) where
     pub outermost : r.parents ≡ []
     pub left : CoreState
     pub made_is : slot (home g r) y.core r.thread ≡ Made left None []
-    pub touched : Guarantee g r y (after g r y left)
+    pub guarantee : Guarantee g r y (after g r y left)
     pub roots : left.roots ≡ y.core.roots - 1
     pub syncs : left.syncs ≡ y.core.syncs
     pub words : left.words ≡ y.core.words
@@ -352,7 +352,7 @@ module _ (g : Setting) (r : Runner) where
     pub outermost : r.parents ≡ []
     pub left : CoreState
     pub made_is : slot (home g r) y.core r.thread ≡ Made left None []
-    pub touched : Guarantee g r y (after g r y left)
+    pub guarantee : Guarantee g r y (after g r y left)
     pub roots : left.roots ≡ y.core.roots
     pub syncs : left.syncs ≡ y.core.syncs
     pub words : left.words ≡ y.core.words
@@ -371,7 +371,7 @@ module _ (g : Setting) (r : Runner) where
     pub left : CoreState
     pub made : Option Record
     pub made_is : slot (home g r) y.core r.thread ≡ Made left made []
-    pub touched : Guarantee g r y (after g r y left)
+    pub guarantee : Guarantee g r y (after g r y left)
     pub roots : left.roots ≡ y.core.roots
     pub syncs : left.syncs ≡ y.core.syncs
     pub channel_ends : left.ends ≡ y.core.ends

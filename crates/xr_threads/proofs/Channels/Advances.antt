@@ -31,7 +31,7 @@ use Rattle.xr_threads.proofs.Relation.Usage.{OthersUsed, used_on}
 
 -- What such a step leaves of the core: all but the thread and the ends of channels.
 pub record Advance (g : Setting) (r : Runner) (a left : CoreState) : Type 0 where
-  pub touched : (x : World) → Guarantee g r (record { core = a; world = x; hand = None }) (record { core = left; world = x; hand = None })
+  pub guarantee : (x : World) → Guarantee g r (record { core = a; world = x; hand = None }) (record { core = left; world = x; hand = None })
   pub syncs : left.syncs ≡ a.syncs
   pub roots : left.roots ≡ a.roots
   pub tied : (thread : Thread) → slice_get left.threads r.thread ≡ Some thread → thread.tie ≡ r.tie
@@ -48,18 +48,18 @@ module _ {moment : Moment none_rests} (thread_at : ThreadAt moment None)
   not_t u m f = let both : true ≡ false = sym (eq-eqb u t f) ∙ m in cc
 
   others_there : (u : ℕ) → u ≢ t → slice_get left.threads u ≡ slice_get a.threads u
-  others_there u ne = (e.touched x.state).others u (λ f. ne (f ∙ thread_is)) (λ k. k)
+  others_there u ne = (e.guarantee x.state).others u (λ f. ne (f ∙ thread_is)) (λ k. k)
 
   pub effect : Effect g who c t r None (only_thread t) a left x.state x.state
   effect = record {
-    clock = (e.touched x.state).clock;
+    clock = (e.guarantee x.state).clock;
     threads = λ u m. others_there u (not_t u m);
     not_held = λ u s got ne. ne_eqb u t (λ f. got_not_run s (sym got ∙ ap (who c) f ∙ runs_r));
     ties = λ u n thread m there tied.
         inr (sym (e.tied thread (ap (slice_get left.threads) (thread_is ∙ sym (eqb-true u t m)) ∙ there)) ∙ num_is thread.tie n tied);
     syncs = λ n ne taken. ap (λ l. slice_get l n) e.syncs ∙ taken;
-    words = (e.touched x.state).words;
-    resources = (e.touched x.state).resources;
+    words = (e.guarantee x.state).words;
+    resources = (e.guarantee x.state).resources;
     clocks = refl;
     branches = λ n branch ne there. there;
     store = λ v f. refl;
@@ -130,7 +130,7 @@ module _ {moment : Moment none_rests} (thread_at : ThreadAt moment None)
   loose some =
       loose_still g who who_next c a left x.state x.state r (st.roles.core c t r None runs_r) (laid_at moment c t r None runs_r)
       (st.loose c a at_c some) (record
-      { words = (e.touched x.state).words; resources = (e.touched x.state).resources; store = λ v f. refl })
+      { words = (e.guarantee x.state).words; resources = (e.guarantee x.state).resources; store = λ v f. refl })
       (λ v nobody. (nobody t s None (role_here who c t (used_by s None)), λ u i other at. let k = alike_still c u i other at in ap (λ f. f.changes v) (sym k.2.footprint) ∙ nobody u k.0 other k.1))
       (λ v want.
       let k = alike_cases c want.thread want.runner want.hand want.runs in
@@ -155,7 +155,7 @@ module _ {moment : Moment none_rests} (thread_at : ThreadAt moment None)
 
   others_used : OthersUsed g who c t st.roles r None runs_r a left (st.used c a at_c)
   others_used = record {
-    as_many = (e.touched x.state).as_many;
+    as_many = (e.guarantee x.state).as_many;
     as_many_syncs = ap length e.syncs;
     alike = λ u ne. record { by = λ thread there. (thread, others_there u ne ∙ there, refl, refl, refl) };
     syncs = λ n ne taken. ap (λ l. slice_get l n) e.syncs ∙ taken;
@@ -190,7 +190,7 @@ module _ {moment : Moment none_rests} (thread_at : ThreadAt moment None)
           world = x.state;
           acted = refl;
           standing = answered thread_at o self left x.state effect may_rest' who_next watched_next []
-              (has_stepped thread_at o self left x.state effect None (e.touched x.state).sizes)
+              (has_stepped thread_at o self left x.state effect None (e.guarantee x.state).sizes)
               (record {
                 acted = refl;
                 clocks = clocks_still thread_at o self left x.state effect None;

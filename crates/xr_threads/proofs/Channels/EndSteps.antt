@@ -37,4 +37,4 @@ module _ (g : Setting) (r : Runner) (a : CoreState) (pc : ℕ) (regs regs' : Reg
   tied_still thread there = ap (λ (k : Thread). k.tie) (same_Some thread (running r.tie (pc + 1) regs') (sym there ∙ gone_on))
 
   pub advance : Advance g r a left
-  advance = record { touched = touches; syncs = refl; roots = refl; tied = tied_still }
+  advance = record { guarantee = touches; syncs = refl; roots = refl; tied = tied_still }

@@ -102,7 +102,7 @@ module _ {moment : Moment none_rests} {thread_at : ThreadAt moment None} {branch
     birth = refl;
     is_next = is_next;
     core = refl;
-    touched = touches g r a pc regs regs' here ends x.state;
+    guarantee = touches g r a pc regs regs' here ends x.state;
     syncs = refl;
     tie = λ thread there. inl (tied_still g r a pc regs regs' here ends thread there);
     roots = refl;

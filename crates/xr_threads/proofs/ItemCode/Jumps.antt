@@ -52,7 +52,7 @@ module _ (g : Setting) (r : Runner) where
         world = refl;
         roots = refl;
         channel_ends = refl;
-        touched = record {
+        guarantee = record {
           clock = refl;
           others = λ u ne not_held. get_set_other y.core.threads r.thread u th' ne;
           as_many = length-set y.core.threads r.thread th';

@@ -291,7 +291,7 @@ module _ (g : Setting) (r : Runner) (laid : IsLaidOut g r) (o : kernel.Output) (
                 left = left;
                 made = Some (out_record (home g r) x.core v port);
                 made_is = w.goes h;
-                touched = record {
+                guarantee = record {
                   clock = refl;
                   others = λ u ne not_held. get_set_other x.core.threads r.thread u (running r.tie pc' w.regs) ne;
                   as_many = length-set x.core.threads r.thread (running r.tie pc' w.regs);

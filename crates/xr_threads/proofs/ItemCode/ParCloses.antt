@@ -57,7 +57,7 @@ module _ (g : Setting) (r : Runner) (n : ℕ) where
         world = refl;
         roots = ap (λ (c : CoreState). c.roots) step.left;
         channel_ends = ap (λ (c : CoreState). c.ends) step.left;
-        touched = record {
+        guarantee = record {
           clock = ap (λ (c : CoreState). c.clock) step.left;
           others = λ u ne not_held. others u ne;
           as_many = ap (λ (c : CoreState). length c.threads) step.left ∙ length-set y.core.threads r.thread th';

@@ -231,7 +231,7 @@ module _ (g : Setting) (r : Runner) (v : ℕ) (laid : IsLaidOut g r) (is : IsCha
             left = left;
             made = None;
             made_is = w.made;
-            touched = record {
+            guarantee = record {
               clock = refl;
               others = λ u ne not_held. get_set_other x.core.threads r.thread u new ne;
               as_many = length-set x.core.threads r.thread new;

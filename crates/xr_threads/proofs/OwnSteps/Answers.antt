@@ -44,7 +44,7 @@ module _ (g : Setting) (r : Runner) (c : ℕ) (a : CoreState) (x : World) where
     is_next = h.acts.is_next;
     birth = refl;
     core = refl;
-    touched = h.touched;
+    guarantee = h.guarantee;
     syncs = h.syncs;
     tie = λ thread there. inl (ap (λ (k : Thread). k.tie)
         (same_Some thread (running_so (is_watching h.items) r.tie h.rest.pc h.rest.regs) (sym there ∙ h.rest.here)));
@@ -68,7 +68,7 @@ module _ (g : Setting) (r : Runner) (c : ℕ) (a : CoreState) (x : World) where
 
   -- what a trap leaves
   pub record HasTrapped (b : CoreState) (thread : Thread) : Type 0 where
-    pub touched : Guarantee g r now (record { core = b; world = x; hand = None })
+    pub guarantee : Guarantee g r now (record { core = b; world = x; hand = None })
     pub roots : b.roots ≡ a.roots
     pub syncs : b.syncs ≡ a.syncs
     pub words : b.words ≡ a.words
@@ -82,7 +82,7 @@ module _ (g : Setting) (r : Runner) (c : ℕ) (a : CoreState) (x : World) where
       let b : CoreState = record a { threads = slice_set a.threads r.thread th' } in
       let is : b ≡ trapped a r.thread = ap (trapped_at a r.thread) (sym at) in
       subst (λ k. HasTrapped k thread) is (record {
-        touched = record {
+        guarantee = record {
           clock = refl;
           others = λ u ne free. get_set_other a.threads r.thread u th' ne;
           as_many = length-set a.threads r.thread th';
@@ -117,7 +117,7 @@ module _ (g : Setting) (r : Runner) (c : ℕ) (a : CoreState) (x : World) where
         is_next = h.acts.is_next;
         birth = refl;
         core = refl;
-        touched = t.touched;
+        guarantee = t.guarantee;
         syncs = t.syncs;
         tie = λ th there. inl (ap (λ (k : Thread). k.tie) (same_Some th (record thread { mode = Trapped }) (sym there ∙ t.there)) ∙ tied);
         roots =
@@ -144,7 +144,7 @@ module _ (g : Setting) (r : Runner) (c : ℕ) (a : CoreState) (x : World) where
     is_next = h.acts.is_next;
     birth = refl;
     core = refl;
-    touched = h.touched;
+    guarantee = h.guarantee;
     syncs = h.syncs;
     tie = λ thread there. inr ((subst IsFree there h.unused).untied);
     roots = let one = root h.acts.branch h.acts.known h.acts.mode in let none = ended_counts c (finished h.acts.branch) refl in let less = h.roots in omega arith;
@@ -168,7 +168,7 @@ module _ (g : Setting) (r : Runner) (c : ℕ) (a : CoreState) (x : World) where
     is_next = h.acts.is_next;
     birth = refl;
     core = refl;
-    touched = h.touched;
+    guarantee = h.guarantee;
     syncs = h.syncs;
     tie = λ thread there. inl ((subst (IsWaitingTied h.sync) there h.waits).tied ∙ sym h.tied);
     roots = let old = made h.acts.branch h.acts.known in let none = ended_counts c (finished h.acts.branch) refl in let same = h.roots in omega arith;

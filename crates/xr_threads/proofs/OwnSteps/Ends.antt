@@ -49,7 +49,7 @@ module _ (g : Setting) (r : Runner) where
         outermost = alone;
         left = record (with_thread y.core r.thread th') { roots = y.core.roots - 1 };
         made_is = turn_is_row (home g r) y.core r.thread r.tie pc regs Freet here instr refl ∙ ap (end_row y.core r.thread th) root;
-        touched = record {
+        guarantee = record {
           clock = refl;
           others = λ u ne not_held. get_set_other y.core.threads r.thread u th' ne;
           as_many = length-set y.core.threads r.thread th';
@@ -82,7 +82,7 @@ module _ (g : Setting) (r : Runner) where
         outermost = alone;
         left = with_thread y.core r.thread th';
         made_is = piece.ends.by (home g r) r.thread n th y.core piece.stand (runs_at g r y pc regs here) tied;
-        touched = record {
+        guarantee = record {
           clock = refl;
           others = λ u ne not_held. get_set_other y.core.threads r.thread u th' ne;
           as_many = length-set y.core.threads r.thread th';

@@ -98,7 +98,7 @@ pub record OwnStep (g : Setting) (r : Runner) (c : ℕ) (a : CoreState) (x : Wor
   pub birth : next.birth ≡ branch.birth
   pub is_next : IsNext g r x world branch next made
   pub core : next.core ≡ branch.core
-  pub touched : Guarantee g r (record { core = a; world = x; hand = None }) (record { core = left; world = x; hand = None })
+  pub guarantee : Guarantee g r (record { core = a; world = x; hand = None }) (record { core = left; world = x; hand = None })
   pub syncs : left.syncs ≡ a.syncs
   pub tie : (thread : Thread) → slice_get left.threads r.thread ≡ Some thread → (thread.tie ≡ r.tie) ⊎ (thread.tie ≡ None)
   pub roots : left.roots + counts c branch ≡ a.roots + counts c next
@@ -149,8 +149,8 @@ module _ {moment : Moment none_rests} (thread_at : ThreadAt moment None)
 
   pub own_effect : Effect g who c t r None (only_thread t) a e.left x.state e.world
   own_effect = record {
-    clock = e.touched.clock;
-    threads = λ u m. e.touched.others u (λ f. not_t u m (f ∙ thread_is)) (λ k. k);
+    clock = e.guarantee.clock;
+    threads = λ u m. e.guarantee.others u (λ f. not_t u m (f ∙ thread_is)) (λ k. k);
     not_held = λ u s got ne. ne_eqb u t (λ f. got_not_run s (sym got ∙ ap (who c) f ∙ runs_r));
     ties = λ u n thread m there tied.
         let at : u ≡ t = eqb-true u t m in
@@ -160,8 +160,8 @@ module _ {moment : Moment none_rests} (thread_at : ThreadAt moment None)
         (λ (none : thread.tie ≡ None). absurd (none_is_some n (sym none ∙ tied_to)))
         (e.tie thread (ap (slice_get e.left.threads) (thread_is ∙ sym at) ∙ there));
     syncs = λ n ne taken. ap (λ l. slice_get l n) e.syncs ∙ taken;
-    words = e.touched.words;
-    resources = e.touched.resources;
+    words = e.guarantee.words;
+    resources = e.guarantee.resources;
     clocks = e.is_next.clocks;
     branches = λ n branch ne there. other_branch n (λ f. ne (inl f)) ∙ there;
     store = own_store;
@@ -231,13 +231,13 @@ module _ {moment : Moment none_rests} (thread_at : ThreadAt moment None)
       ap (living_on d) e.is_next.branches ∙ same
 
   pub leaves_loose : LeavesLoose g r a e.left x.state e.world
-  leaves_loose = record { words = e.touched.words; resources = e.touched.resources; store = own_store }
+  leaves_loose = record { words = e.guarantee.words; resources = e.guarantee.resources; store = own_store }
 
   pub others_used : OthersUsed g who c t st.roles r None runs_r a e.left (st.used c a at_c)
   others_used = record {
-    as_many = e.touched.as_many;
+    as_many = e.guarantee.as_many;
     as_many_syncs = ap length e.syncs;
-    alike = λ u ne. record { by = λ thread there. (thread, e.touched.others u (λ f. ne (f ∙ thread_is)) (λ k. k) ∙ there, refl, refl, refl) };
+    alike = λ u ne. record { by = λ thread there. (thread, e.guarantee.others u (λ f. ne (f ∙ thread_is)) (λ k. k) ∙ there, refl, refl, refl) };
     syncs = λ n ne taken. ap (λ l. slice_get l n) e.syncs ∙ taken;
   }
 
@@ -250,7 +250,7 @@ module _ {moment : Moment none_rests} (thread_at : ThreadAt moment None)
   at_left = get_set_same w.machine.cores c a e.left at_c
 
   pub others_there : (u : ℕ) → u ≢ t → slice_get e.left.threads u ≡ slice_get a.threads u
-  others_there u ne = e.touched.others u (λ f. ne (f ∙ thread_is)) (λ k. k)
+  others_there u ne = e.guarantee.others u (λ f. ne (f ∙ thread_is)) (λ k. k)
 
   -- what was there behind another role of the thread
   module _ (role : Role) where
@@ -382,7 +382,7 @@ module _ {moment : Moment none_rests} (thread_at : ThreadAt moment None)
         let o = only_thread t in
         let self = eq-eqb t t refl in
         record {
-          stepped = has_stepped thread_at o self e.left e.world own_effect e.made e.touched.sizes;
+          stepped = has_stepped thread_at o self e.left e.world own_effect e.made e.guarantee.sizes;
           clocks = clocks_still thread_at o self e.left e.world own_effect e.made;
           trace = refl;
           links = st.links;

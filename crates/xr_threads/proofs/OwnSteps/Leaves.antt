@@ -120,7 +120,7 @@ module _ {moment : Moment none_rests} (thread_at : ThreadAt moment None)
         world = e.world;
         acted = acted;
         standing = answered thread_at o self e.left e.world effect none_rests who_off watched_off piece
-            (has_stepped thread_at o self e.left e.world effect e.made e.touched.sizes)
+            (has_stepped thread_at o self e.left e.world effect e.made e.guarantee.sizes)
             (record {
               acted = acted;
               clocks = clocks_still thread_at o self e.left e.world effect e.made;

@@ -65,7 +65,7 @@ module _ (g : Setting) (r : Runner) where
         left = left;
         made = None;
         made_is = made.made;
-        touched = record {
+        guarantee = record {
           clock = refl;
           others = λ u ne not_held. get_set_other y.core.threads r.thread u th' ne;
           as_many = length-set y.core.threads r.thread th';

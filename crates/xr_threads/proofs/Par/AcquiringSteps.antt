@@ -62,7 +62,7 @@ module _ (g : Setting) (r : Runner) where
 
     -- what a step leaves, and who has what then
     record Left : Type 0 where
-      touched : Guarantee g r y next
+      guarantee : Guarantee g r y next
       roots : b.roots ≡ y.core.roots
       channel_ends : b.ends ≡ y.core.ends
       change : HandChange g r y next
@@ -76,7 +76,7 @@ module _ (g : Setting) (r : Runner) where
         let others : (u : ℕ) → u ≢ r.thread → slice_get b.threads u ≡ slice_get y.core.threads u = λ u ne. ap (λ (c : CoreState). slice_get c.threads u) left ∙ get_set_other y.core.threads r.thread u th' ne in
         let all_words : (w : ℕ) → slice_get b.words w ≡ slice_get y.core.words w = λ w. ap (λ (c : CoreState). slice_get c.words w) left ∙ words w in
         record {
-          touched = record {
+          guarantee = record {
             clock = ap (λ (c : CoreState). c.clock) left;
             others = λ u ne free. others u ne;
             as_many = ap (λ (c : CoreState). length c.threads) left ∙ length-set y.core.threads r.thread th';
@@ -96,7 +96,7 @@ module _ (g : Setting) (r : Runner) where
         let th' : Thread = record step.thread { pc = step.thread.pc + 1; regs = regs } in
         let others : (u : ℕ) → u ≢ r.thread → slice_get b.threads u ≡ slice_get y.core.threads u = λ u ne. ap (λ (c : CoreState). slice_get c.threads u) left ∙ get_set_other y.core.threads r.thread u th' ne in
         record {
-          touched = record {
+          guarantee = record {
             clock = ap (λ (c : CoreState). c.clock) left;
             others = λ u ne free. others u ne;
             as_many = ap (λ (c : CoreState). length c.threads) left ∙ length-set y.core.threads r.thread th';
@@ -121,7 +121,7 @@ module _ (g : Setting) (r : Runner) where
         let rest : (v : ℕ) → v ≢ r.thread → v ≢ u → slice_get b.threads v ≡ slice_get y.core.threads v = λ v ne nu.
         ap (λ (c : CoreState). slice_get c.threads v) left ∙ get_set_other threads r.thread v th' ne ∙ get_set_other y.core.threads u v (tied_to n x) nu in
         record {
-          touched = record {
+          guarantee = record {
             clock = ap (λ (c : CoreState). c.clock) left;
             others = λ v ne free. rest v ne (λ e. free (subst (λ (h : Hand). IsAmong h.threads v) (sym same) (inl e)));
             as_many = ap (λ (c : CoreState). length c.threads) left ∙ length-set threads r.thread th' ∙ length-set y.core.threads u (tied_to n x);
@@ -145,7 +145,7 @@ module _ (g : Setting) (r : Runner) where
         let rest : (v : ℕ) → v ≢ r.thread → v ≢ u → slice_get b.threads v ≡ slice_get y.core.threads v = λ v ne nu.
         ap (λ (c : CoreState). slice_get c.threads v) left ∙ get_set_other threads r.thread v th' ne ∙ get_set_other y.core.threads u v x' nu in
         record {
-          touched = record {
+          guarantee = record {
             clock = ap (λ (c : CoreState). c.clock) left;
             others = λ v ne free. rest v ne (λ e. free (subst (λ (h : Hand). IsAmong h.threads v) (sym same) (subst (IsAmong hand.threads) (sym e) among)));
             as_many = ap (λ (c : CoreState). length c.threads) left ∙ length-set threads r.thread th' ∙ length-set y.core.threads u x';
@@ -185,7 +185,7 @@ module _ (g : Setting) (r : Runner) where
       world = refl;
       roots = left.roots;
       channel_ends = left.channel_ends;
-      touched = left.touched;
+      guarantee = left.guarantee;
       hand = left.change;
       was = running_on;
       on = left.on;

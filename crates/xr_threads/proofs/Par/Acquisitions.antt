@@ -79,7 +79,7 @@ hand_sync items hand u (opens h bs rest e is count several synced) m = by h.sync
 
 module _ {moment : Moment none_rests} {hand : Option Hand} (thread_at : ThreadAt moment hand)
     (branch : Branch) (fits : HandFits branch.items hand) (z : ThreadView) (on : StillRuns moment.setting thread_at.runner z.core)
-    (touched : Guarantee moment.setting thread_at.runner
+    (guarantee : Guarantee moment.setting thread_at.runner
     (record { core = thread_at.state; world = moment.told.state; hand = hand }) z) where
   open moment use {setting as g, image as is, roles as who, watched as w, told as x, standing as st}
   open thread_at use {core as c, thread as t, state as a, at_core as at_c, runner as r, runs as runs_r}
@@ -134,7 +134,7 @@ module _ {moment : Moment none_rests} {hand : Option Hand} (thread_at : ThreadAt
     keeps_used =
         let used = st.used c a at_c in
         record {
-          threads = touched.as_many ∙ used.threads;
+          threads = guarantee.as_many ∙ used.threads;
           syncs = ap length same_syncs ∙ used.syncs;
           unused = λ u few free. free_still a z.core u (alike same u (λ e. unused_runs r hand (sym free ∙ ap (who c) e ∙ runs_r))) (used.unused u few free);
           got = λ u k n i other got its sync. waits_still a z.core u n (alike same u (λ e. got_runs k r hand (sym got ∙ ap (who c) e ∙ runs_r))) (used.got u k n i other got its sync);
@@ -156,7 +156,7 @@ module _ {moment : Moment none_rests} {hand : Option Hand} (thread_at : ThreadAt
       gives = record { before = λ d u n i at. (i, n, at, refl) };
       roles = st.roles;
       used = keeps_used;
-      threads = λ u m. let f = or_false (only_thread t u) (is_held (held_in hand) u) m in touched.others u (λ e. not_same u t f.0 (e ∙ thread_is)) (λ k. not_z_held u f.1 k);
+      threads = λ u m. let f = or_false (only_thread t u) (is_held (held_in hand) u) m in guarantee.others u (λ e. not_same u t f.0 (e ∙ thread_is)) (λ k. not_z_held u f.1 k);
       not_held = λ u s got ne. not_moved u s got ne;
       ties = λ u n thread m there tied. tied_to_own u n thread m there tied (cases_eq u t);
       syncs = λ n ne taken. ap (λ l. slice_get l n) same_syncs ∙ taken;
@@ -211,7 +211,7 @@ module _ {moment : Moment none_rests} {hand : Option Hand} (thread_at : ThreadAt
 
     synced_others : OthersUsed g who c t st.roles r hand runs_r a z.core (st.used c a at_c)
     synced_others = record {
-      as_many = touched.as_many;
+      as_many = guarantee.as_many;
       as_many_syncs = ap length taken ∙ length-set a.syncs n true;
       alike = λ u ne. alike same u ne;
       syncs = λ m not_own e. ap (λ l. slice_get l m) taken ∙ get_set_other a.syncs n m true (free_not_taken m e) ∙ e;
@@ -282,7 +282,7 @@ module _ {moment : Moment none_rests} {hand : Option Hand} (thread_at : ThreadAt
         branches = λ m b. inl b;
       });
       used = used_on g who c t st.roles r hand runs_r a z.core (st.used c a at_c) r hand_synced synced_others synced_taken synced_owned (λ m u e k. absurd (holds_none_now u k));
-      threads = λ u m. touched.others u (λ e. not_same u t m (e ∙ thread_is)) (λ k. holds_none_now u (subst (λ l. IsAmong l u) (ap held_in with_it ∙ sym (ap held_in in_hand)) k));
+      threads = λ u m. guarantee.others u (λ e. not_same u t m (e ∙ thread_is)) (λ k. holds_none_now u (subst (λ l. IsAmong l u) (ap held_in with_it ∙ sym (ap held_in in_hand)) k));
       not_held = λ u s got ne. ne_eqb u t (λ e. got_runs s r hand (sym got ∙ ap (who c) e ∙ runs_r));
       ties = λ u m thread e there tied. inr (own_tie u m thread (eqb-true u t e) there tied);
       syncs = λ m not_own e. synced_others.syncs m not_own e;
@@ -401,7 +401,7 @@ module _ {moment : Moment none_rests} {hand : Option Hand} (thread_at : ThreadAt
       still = λ d u i other at. still_more d u i other at (at_place d u);
       gives = record { before = λ d u m i at. gives_more d u m i at (at_place d u) };
       roles = roles_get g who c t v st.roles r h runs_h free_role few_there inside_there;
-      used = used_get g who c t v st.roles r h runs_h free_role few_there inside_there a z.core (st.used c a at_c) n synced touched.as_many same_syncs
+      used = used_get g who c t v st.roles r h runs_h free_role few_there inside_there a z.core (st.used c a at_c) n synced guarantee.as_many same_syncs
           (subst (IsWaitingTied n) (sym tied) (record { waits = refl; no_events = no_event_bit; tied = refl }))
           (λ u ne nv. others u (λ e. ne (e ∙ thread_is)) nv);
       threads = λ u m. let f = or_false (only_thread t u) (only_thread v u) m in others u (λ e. not_same u t f.0 (e ∙ thread_is)) (not_same u v f.1);
@@ -461,25 +461,25 @@ module _ {moment : Moment none_rests} {hand : Option Hand} {thread_at : ThreadAt
   by_roles : (hand' : Option Hand) → z.hand ≡ hand' → (who' : Roles) (moved : ℕ → Bool) → SilentRoles g who who' c t r hand hand' a z.core branch moved → (AreNamed g who w x → AreNamed g who' (watched_after w (Step c t) silent_machine) nothing_told) →
       Follows g none_rests who w x (watched_after w (Step c t) silent_machine)
   by_roles hand' e who' moved roles named =
-      silent_answered branch_at z.core hand' alive calm silent.on (view_is hand' e (Guarantee g r before) silent.touched) silent.roots
+      silent_answered branch_at z.core hand' alive calm silent.on (view_is hand' e (Guarantee g r before) silent.guarantee) silent.roots
       silent.channel_ends who' moved roles left few
       (view_is hand' e (StandsBy g r false branch.items branch.mode left) by) named
 
   by_change : HandChange g r before z → Follows g none_rests who w x (watched_after w (Step c t) silent_machine)
   by_change (keeps e syncs same) =
       by_roles hand e who (λ u. only_thread t u || is_held (held_in hand) u)
-      (keeps_roles thread_at branch stand.in_hand z silent.on silent.touched e syncs same)
-      (λ names. keeps_linked g none_rests who w x st names silent_machine c t before z at_c at_left r nothing_told nothing_done hand runs_r syncs silent.touched.as_many same)
+      (keeps_roles thread_at branch stand.in_hand z silent.on silent.guarantee e syncs same)
+      (λ names. keeps_linked g none_rests who w x st names silent_machine c t before z at_c at_left r nothing_told nothing_done hand runs_r syncs silent.guarantee.as_many same)
   by_change (gets_sync h n e none free taken with_it same) =
       by_roles (Some (with_sync h n)) with_it (with_role who c t (used_by r (Some (with_sync h n)))) (only_thread t)
-      (gets_sync_roles thread_at branch stand.in_hand z silent.on silent.touched h n e none free taken with_it same)
-      (λ names. gets_sync_linked g none_rests who w x st names silent_machine c t before z at_c at_left r nothing_told nothing_done h n (runs_r ∙ ap (used_by r) e) none free taken silent.touched.as_many same)
+      (gets_sync_roles thread_at branch stand.in_hand z silent.on silent.guarantee h n e none free taken with_it same)
+      (λ names. gets_sync_linked g none_rests who w x st names silent_machine c t before z at_c at_left r nothing_told nothing_done h n (runs_r ∙ ap (used_by r) e) none free taken silent.guarantee.as_many same)
   by_change (gets_thread h n v x' e synced lacks next there syncs with_it tied others) =
       by_roles (Some (with_thread_got h v)) with_it
-      (who_more thread_at branch stand.in_hand z silent.on silent.touched h n v x' e synced lacks next there syncs tied others)
+      (who_more thread_at branch stand.in_hand z silent.on silent.guarantee h n v x' e synced lacks next there syncs tied others)
       (λ u. only_thread t u || only_thread v u)
-      (gets_thread_roles thread_at branch stand.in_hand z silent.on silent.touched h n v x' e synced lacks next there syncs tied others)
-      (λ names. more_named thread_at branch stand.in_hand z silent.on silent.touched h n v x' e synced lacks next there syncs tied others
+      (gets_thread_roles thread_at branch stand.in_hand z silent.on silent.guarantee h n v x' e synced lacks next there syncs tied others)
+      (λ names. more_named thread_at branch stand.in_hand z silent.on silent.guarantee h n v x' e synced lacks next there syncs tied others
       names silent_machine at_left nothing_told nothing_done)
 
   pub silent_followed : Follows g none_rests who w x (watched_after w (Step c t) silent_machine)

@@ -75,9 +75,9 @@ pub record IsNextStanding
   pub far_steps : (d t : ℕ) → d ≢ c → (w'.lives d t).steps ≡ (w.lives d t).steps
   pub stand : (t : ℕ) → moved t ≡ true →
       Stands g (may_rest' c t) b y (w'.lives c t) (told_by g.program g.stimulus x piece y).actions (who' c t)
-  pub kept : (t : ℕ) (s : Runner) (hand : Option Hand) → moved t ≡ false → who c t ≡ used_by s hand →
+  pub rely : (t : ℕ) (s : Runner) (hand : Option Hand) → moved t ≡ false → who c t ≡ used_by s hand →
       Rely g s (record { core = a; world = x.state; hand = hand }) (record { core = b; world = y; hand = hand })
-  pub far_kept : (d t : ℕ) (e : CoreState) (s : Runner) (hand : Option Hand) → d ≢ c → slice_get w.machine.cores d ≡ Some e → who d t ≡ used_by s hand →
+  pub far_rely : (d t : ℕ) (e : CoreState) (s : Runner) (hand : Option Hand) → d ≢ c → slice_get w.machine.cores d ≡ Some e → who d t ≡ used_by s hand →
       Rely g s (record { core = e; world = x.state; hand = hand }) (record { core = e; world = y; hand = hand })
   pub links : w'.machine.links ≡ no_links
   pub wired : AreWired g who' w'.machine y
@@ -242,14 +242,14 @@ moves g may_rest may_rest' who who' w w' x c a b moved piece y st step next =
         (role_still g (may_rest d t) (may_rest' d t) e f x.state y (w.lives d t) (w'.lives d t) x.actions
         (told_by g.program g.stimulus x piece y).actions (who d t) (next.far_rests d t ne)
         (λ s hand is. kept_ends g s (record { core = e; world = x.state; hand = hand }) e f y hand same
-        (next.far_kept d t e s hand ne at is)) (next.far_steps d t ne) not_less (st.threads d t e at))
+        (next.far_rely d t e s hand ne at is)) (next.far_steps d t ne) not_less (st.threads d t e at))
 
     -- a thread of this core, by whether it is one of those that are shown
     by_moved : (t : ℕ) (m : Bool) → moved t ≡ m → Stands g (may_rest' c t) b y (w'.lives c t) (told_by g.program g.stimulus x piece y).actions (who' c t)
     by_moved t true m = next.stand t m
     by_moved t false m =
         subst (Stands g (may_rest' c t) b y (w'.lives c t) (told_by g.program g.stimulus x piece y).actions) (sym (next.same_role t m))
-        (role_still g (may_rest c t) (may_rest' c t) a b x.state y (w.lives c t) (w'.lives c t) x.actions (told_by g.program g.stimulus x piece y).actions (who c t) (next.rests t m) (λ s hand is. next.kept t s hand m is) (next.steps t m) not_less (st.threads c t a step.was))
+        (role_still g (may_rest c t) (may_rest' c t) a b x.state y (w.lives c t) (w'.lives c t) x.actions (told_by g.program g.stimulus x piece y).actions (who c t) (next.rests t m) (λ s hand is. next.rely t s hand m is) (next.steps t m) not_less (st.threads c t a step.was))
 
     here : (t : ℕ) → Stands g (may_rest' c t) b y (w'.lives c t) (told_by g.program g.stimulus x piece y).actions (who' c t)
     here t = by_moved t (moved t) refl
@@ -272,14 +272,14 @@ moves g may_rest may_rest' who who' w w' x c a b moved piece y st step next =
     alone_here u s hand transfer is its true m = next.alone u s hand transfer m is its
     alone_here u s hand transfer is its false m =
         let old = sym (next.same_role u m) ∙ is in
-        alone_kept c u a s hand transfer step.was old its (next.kept u s hand m old).branch
+        alone_kept c u a s hand transfer step.was old its (next.rely u s hand m old).branch
 
     alone_there : (d u : ℕ) (s : Runner) (hand : Option Hand) (transfer : Transfer) → d ≢ c → who d u ≡ used_by s hand → s.transfer ≡ Some transfer → HasAlone y.branches transfer.channel transfer.side s.branch
     alone_there d u s hand transfer ne is its =
         let lt = st.roles.there d u s hand is in
         let four = st.cores in
         let e = core_at w.machine.cores d (omega arith) in
-        alone_kept d u e.0 s hand transfer e.1 is its (next.far_kept d u e.0 s hand ne e.1 is).branch
+        alone_kept d u e.0 s hand transfer e.1 is its (next.far_rely d u e.0 s hand ne e.1 is).branch
 
 -- What an event of one runner leaves as it was for all others: it changes threads that are its own, that it got or that are unused; ties them
 -- to synchronisers of its own; takes synchronisers that are free and gives back its own ones; and changes words, ports and variables within its

@@ -148,10 +148,10 @@ module _ {may_rest : (core thread : ℕ) → Bool} {moment : Moment may_rest} {h
           steps = answer.steps;
           far_steps = answer.far_steps;
           stand = answer.stand;
-          kept = λ u s other m runs_s.
+          rely = λ u s other m runs_s.
               kept_others moment thread_at moved b y effect u s other (not_own u m) m runs_s
               (spare_for g who' y c b (crew_behind lt) u s other (answer.same_role u m ∙ runs_s));
-          far_kept = λ d u e s other ne at_d runs_s. far_others moment thread_at moved b y effect d u e s other
+          far_rely = λ d u e s other ne at_d runs_s. far_others moment thread_at moved b y effect d u e s other
               ne at_d runs_s;
           links = answer.links;
           wired = answer.wired;

@@ -143,8 +143,8 @@ module _ (moment : Moment none_rests)
         wired = wired_still g who who w.machine watched_ticked.machine c a (ticked a) x.state later same_transfers at_c refl refl
             refl st.wired;
         alone = λ u s hand transfer m at its. absurd (false_true m);
-        kept = λ u s hand m runs. kept_here u s hand runs;
-        far_kept = λ d u e s hand ne at runs. kept_far d u e s hand ne at runs;
+        rely = λ u s hand m runs. kept_here u s hand runs;
+        far_rely = λ d u e s hand ne at runs. kept_far d u e s hand ne at runs;
         loose = λ some. loose_later c a (ticked a) refl refl (st.loose c a at_c some);
         far_loose = λ d e ne at loose. loose_later d e e refl refl loose;
         roots = st.roots c a at_c;

@@ -117,7 +117,7 @@ module _ {moment : Moment none_rests} {hand : Option Hand} {thread_at : ThreadAt
     (alive : (mode : ThreadMode) → mode ≡ Running → ThreadIs thread_at.runner.parents branch_at.branch.mode mode)
     (calm : (bit : Bool) → bit ≡ false → EventsAre branch_at.branch.mode branch_at.branch.items bit)
     (on : StillRuns moment.setting thread_at.runner b)
-    (touched : Guarantee moment.setting thread_at.runner (record { core = thread_at.state; world = moment.told.state; hand = hand })
+    (guarantee : Guarantee moment.setting thread_at.runner (record { core = thread_at.state; world = moment.told.state; hand = hand })
     (record { core = b; world = moment.told.state; hand = hand' }))
     (roots : b.roots ≡ thread_at.state.roots) (ends : b.ends ≡ thread_at.state.ends) (who' : Roles) (moved : (thread : ℕ) → Bool)
     (s : SilentRoles moment.setting moment.roles who' thread_at.core thread_at.thread thread_at.runner hand hand' thread_at.state b
@@ -128,13 +128,13 @@ module _ {moment : Moment none_rests} {hand : Option Hand} {thread_at : ThreadAt
 
   pub silent_effect : Effect g who c t r hand moved a b x.state x.state
   silent_effect = record {
-    clock = touched.clock;
+    clock = guarantee.clock;
     threads = s.threads;
     not_held = s.not_held;
     ties = s.ties;
     syncs = s.syncs;
-    words = touched.words;
-    resources = touched.resources;
+    words = guarantee.words;
+    resources = guarantee.resources;
     clocks = refl;
     branches = λ n branch ne there. there;
     store = λ v e. refl;
@@ -146,7 +146,7 @@ module _ {moment : Moment none_rests} {hand : Option Hand} {thread_at : ThreadAt
   silent_loose : 1 ≤ threads_on g.program c → AreLoose g who' c b x.state
   silent_loose some =
       loose_still g who who' c a b x.state x.state r (st.roles.core c t r hand runs_r) (laid_at moment c t r hand runs_r)
-      (st.loose c a at_c some) (record { words = touched.words; resources = touched.resources; store = λ v e. refl })
+      (st.loose c a at_c some) (record { words = guarantee.words; resources = guarantee.resources; store = λ v e. refl })
       (λ v nobody. (nobody t r hand' s.now, λ u i other at. let k = s.still c u i other at in nobody u i k.0 k.1))
       (λ v want. let k = s.before c want.thread want.runner want.hand want.runs in record { thread = want.thread; runner = want.runner; hand = k.0; runs = k.1; parent = want.parent; waits = want.waits; uses = want.uses })
       (λ q nobody. (nobody t r hand' s.now, λ u i other at. let k = s.still c u i other at in nobody u i k.0 k.1))
@@ -228,7 +228,7 @@ module _ {moment : Moment none_rests} {hand : Option Hand} {thread_at : ThreadAt
       world = x.state;
       acted = refl;
       standing = answered thread_at moved s.own b x.state silent_effect none_rests who' silent_watched []
-          (has_stepped thread_at moved s.own b x.state silent_effect None touched.sizes)
+          (has_stepped thread_at moved s.own b x.state silent_effect None guarantee.sizes)
           (record {
             acted = refl;
             clocks = clocks_still thread_at moved s.own b x.state silent_effect None;
