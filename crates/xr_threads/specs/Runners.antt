@@ -57,8 +57,7 @@ footprint_of items = record {
 abbrev pub everything : Footprint
 everything = record { uses = λ v. true; changes = λ v. true; ports = λ p. true; timers = λ t. true; channels = λ c. true }
 
--- What a thread's code sees the variables, ports and ends of its core by: dp names a word, and a plan of its own says the rest. Where it
--- has none, that is the core's plan.
+-- How a thread's code addresses variables, ports and ends: the word that dp names, and its own plan or else the core's.
 pub record Block : Type 0 where
   pub base : ℕ
   pub plan : Option Plan
@@ -222,7 +221,7 @@ module _ (g : Setting) (r : Runner) where
   IsMine (ResTimer n) = IsOwnTimer n
   IsMine (ResEnd n) = IsOwnEnd n
 
-  -- Its code stands in no other block, the variables of its core stand near, no two of them share a word, and none is a temporary one of
+  -- Its block is the outermost, the variables of its core stand near, no two of them share a word, and none is a temporary one of
   -- the runner's. Its ports and its channels' ends have the identifiers that the plan gives them.
   pub record IsLaidOut : Type 0 where
     pub block : r.block ≡ outside

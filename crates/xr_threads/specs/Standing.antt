@@ -44,7 +44,7 @@ ThreadIs [] ended mode = mode ≡ Waiting
 ThreadIs (p ∷ ps) ended mode = mode ≡ Running
 ThreadIs ps erred mode = mode ≡ Trapped
 
--- Whether it takes events: a branch that runs says so, one that has ended takes none, and of one that has erred nobody asks.
+-- Whether its thread takes events: where the first item waits for one; not once the branch has ended; of one that has erred nothing is said.
 abbrev pub EventsAre : Mode → List Item → (takes_events : Bool) → Type 0
 EventsAre runs items bit = bit ≡ is_watching items
 EventsAre (waits from count) items bit = ⊥

@@ -25,7 +25,7 @@ use Rattle.xr_threads.specs.Runners.{Setting, Runner, end_place, home}
 use Rattle.xr_threads.specs.ThreadViews.{running}
 use Rattle.xr_threads.specs.Transfers.{AwaitsNothing, acts_left}
 use Rattle.xr_threads.specs.Turns.{HasBases, IsBehind, ItemsFrom, TakesSteps}
-use Rattle.xr_wires.specs.Phases.{Question, awaits_ack, checks_end, offers, sends_ack, sends_end}
+use Rattle.xr_wires.specs.Phases.{awaits_ack, checks_end, offers, sends_ack, sends_end}
 use Rattle.xr_threads.proofs.RelyGuarantee.Stands.{items_stand}
 
 -- Steps of a protocol don't depend on where the thread began it.
@@ -102,10 +102,6 @@ module _ (g : Setting) (r : Runner) (c : ℕ) (side : Side) (pos : Pos) (P : ℕ
   pub end_sent : (v : ℕ) → TakesSteps g r c side pos (acts_left (sends_end v)) P pc regs →
       TakesSteps g r c side pos (acts_left (awaits_ack (offers v))) P (pc + 1) regs
   end_sent v steps = behind_sent (control_token END ∷ []) (acts_left (awaits_ack (offers v))) steps
-
-  -- and the answer to it
-  pub ack_taken : (q : Question) → TakesSteps g r c side pos (acts_left (awaits_ack q)) P pc regs → P (pc + 1) regs
-  ack_taken q steps = steps.1
 
   -- the end of an offer whose word has come in
   pub end_taken : TakesSteps g r c side pos (acts_left checks_end) P pc regs → TakesSteps g r c side pos (acts_left sends_ack) P (pc + 1) regs

@@ -7,7 +7,6 @@ use Rattle.xs_instr.specs.declared.state.Regs.{Regs}
 use Rattle.xs_instr.specs.Ends.{control_token}
 use Rattle.xc_meaning.specs.States.Branches.{runs}
 use Rattle.xc_meaning.specs.States.Channels.{Side}
-use Rattle.xr_threads.specs.Fits.{ItemsFit}
 use Rattle.xr_threads.specs.Runners.{Runner}
 use Rattle.xr_threads.specs.ThreadViews.{ThreadView, running}
 use Rattle.xr_threads.specs.Standing.{IfTrue, IsAtRest, StandsWith, none_rests}
@@ -111,12 +110,6 @@ module _ {moment : Moment none_rests} {thread_at : ThreadAt moment None} (branch
 
     abbrev out : Runner
     out = record r { transfer = None }
-
-    out_has : Has g out branch.items then
-    out_has = has_as g r None branch.items then (has_still h.pc h.regs h.here es h.has)
-
-    out_fits : ItemsFit g out branch.items
-    out_fits = fits_as g r None branch.items stand.footprint h.fits
 
     out_here : slice_get then.core.threads r.thread ≡ Some (running r.tie (h.pc + 1) h.regs)
     out_here = gone_on g r a h.pc h.regs h.regs h.here es

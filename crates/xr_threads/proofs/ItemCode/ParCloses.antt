@@ -21,7 +21,7 @@ use Rattle.xr_threads.specs.Parents.{Parent, sync_before, syncs_of}
 use Rattle.xl_walk.specs.Pieces.{ClosesAt, Exit}
 use Rattle.xr_threads.specs.Runners.{Setting, Runner, code, home, plan, relied}
 use Rattle.xr_threads.specs.ThreadViews.{IsSilentStep, Rely, LeadsIn, keeps, Owns, ThreadView, StillRuns, after, running}
-use Rattle.xr_threads.specs.Turns.{HasBases, HoldsNames, IsAt, IsJoining, Joins, JoinsAt, name_register}
+use Rattle.xr_threads.specs.Turns.{HasBases, HoldsNames, IsAt, Joins, JoinsAt, name_register}
 use Rattle.xr_threads.proofs.RelyGuarantee.Arrival.{at_runs, runs_still, same_use}
 use Rattle.xr_threads.proofs.RelyGuarantee.Layouts.{runs_at}
 use Rattle.xr_threads.proofs.RelyGuarantee.ThreadViews.{leads_as}
@@ -131,11 +131,3 @@ closes_leads g r p ps n j pc closed z regs exits parents sync few outer taken he
     leads_as g r (λ x. Q x.core × (x.hand ≡ None)) (Joins g r p ps j) 7 z
     (λ x h y k. joins_at g r p ps n j regs exits parents sync outer bases pc at_end z.core.words closes.place y behind' (h.0 y.core (sync_kept g r n x y (owned x.hand) k)) (k.hand ∙ h.1))
     (quiet_leads g r n Q None 7 z no_hand (owned z.hand) (at_runs g r z pc regs here) way)
-
-pub closes_lead : (g : Setting) (r : Runner) (p : Parent) (ps : List Parent) (n j pc closed : ℕ) (z : ThreadView) (regs : Regs)
-    (exits : List Exit) →
-    r.parents ≡ p ∷ ps → p.sync ≡ Some n → n < 8 → length (syncs_of ps) ≤ 6 → slice_get z.core.syncs n ≡ Some true →
-    IsAt g r z pc regs → HasBases g r regs → ClosesAt (code g r) (plan g r) pc closed →
-    ItemsAt (plan g r) (code g r) p.sides (EndAt (plan g r) (code g r) r.tie ps) p.items exits closed j → z.hand ≡ None → IsJoining g r p ps (7 + j) z
-closes_lead g r p ps n j pc closed z regs exits parents sync few outer taken here bases closes behind no_hand =
-    (7, j, omega arith, closes_leads g r p ps n j pc closed z regs exits parents sync few outer taken here bases closes behind no_hand)

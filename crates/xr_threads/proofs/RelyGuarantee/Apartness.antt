@@ -37,7 +37,7 @@ pub not_true : (b : Bool) → (b ≡ true → ⊥) → b ≡ false
 not_true true h = absurd (h refl)
 not_true false h = refl
 
--- what one runner of a core may change is nothing that another one relies on, and they have no resource both
+-- what one runner of a core may change is nothing that another one relies on, and they have no resource in common
 pub record IsApart (g : Setting) (r s : Runner) : Type 0 where
   pub words : (w : ℕ) → relied g s w ≡ true → MayChange g r w → ⊥
   pub resources : (res : Res) → IsMine g s res → IsMine g r res → ⊥

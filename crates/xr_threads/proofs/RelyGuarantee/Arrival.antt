@@ -47,7 +47,7 @@ module _ (g : Setting) (r : Runner) where
       or_left (is_among_words r.stack temporary (r.stack + k))
       (is_word_among 0 (places g r.core) r.footprint.uses (length (places g r.core)) (r.stack + k)) (among_words r.stack temporary k lt)
 
-  -- one of the runner's ports is a resource of its
+  -- one of the runner's ports is the runner's own
   pub own_port : (p : ℕ) (listed : PortUse) → IsPort g r p listed → IsMine g r (ResPort (port_place g r p))
   own_port p listed is = record { port = p; listed = listed; is = is; place = refl }
 
