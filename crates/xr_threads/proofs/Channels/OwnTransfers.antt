@@ -21,11 +21,11 @@ use Rattle.xr_threads.specs.Runners.{Runner, footprint_of}
 use Rattle.xr_threads.specs.ThreadViews.{ThreadView, running}
 use Rattle.xr_threads.specs.Standing.{Stand, StandsBy, StandsWith, ThreadIs, none_rests}
 use Rattle.xr_threads.specs.Transfers.{Transfer}
-use Rattle.xr_threads.specs.Turns.{Has, IsNext, cost, is_watching}
+use Rattle.xr_threads.specs.Turns.{Has, IsNext, cost, is_watching, own_go}
 use Rattle.xr_threads.specs.Wired.{AreWired, HasAlone}
 use Rattle.xr_threads.proofs.Channels.OwnSide.{alone_behind}
 use Rattle.xr_threads.proofs.OwnSteps.Answers as answers
-use Rattle.xr_threads.proofs.Relation.Counts.{counts_one}
+use Rattle.xr_threads.proofs.Relation.Counts.{counts_own}
 use Rattle.xr_threads.proofs.Channels.EndSteps as step
 use Rattle.xr_threads.proofs.Channels.EndSteps.{gone_on, tied_still, touches}
 use Rattle.xr_threads.proofs.RelyGuarantee.Less.{uses_less}
@@ -97,7 +97,7 @@ module _ {moment : Moment none_rests} {thread_at : ThreadAt moment None} {branch
     world = world;
     piece = go r.branch ∷ [];
     acted = ap (λ o. acts_all g.program g.stimulus o []) acted;
-    paid = counts_one g r.branch x.state branch [] known;
+    paid = counts_own g r.branch x.state branch (go r.branch) [] known own_go;
     next = record branch { items = items };
     birth = refl;
     is_next = is_next;
@@ -146,7 +146,7 @@ module _ {moment : Moment none_rests} {thread_at : ThreadAt moment None} {branch
   -- its life is one step longer
   bound_behind : (j further : ℕ) → j ≤ stand.left → further ≤ j + 2 + cost g r → (watched.lives c t).steps + further ≤ kernel_bound g.program * (more r.family + 1)
   bound_behind j further few enough =
-      let one : 1 ≤ steps_of g.program g.stimulus branch.family (Some x.state) (go r.branch ∷ []) = counts_one g r.branch x.state branch [] known in
+      let one : 1 ≤ steps_of g.program g.stimulus branch.family (Some x.state) (go r.branch ∷ []) = counts_own g r.branch x.state branch (go r.branch) [] known own_go in
       let one' : 1 ≤ steps_of g.program g.stimulus r.family (Some x.state) (go r.branch ∷ []) = subst (λ f. 1 ≤ steps_of g.program g.stimulus f (Some x.state) (go r.branch ∷ [])) stand.family one in
       let life : (watched.lives c t).steps ≡ (w.lives c t).steps + 1 = ap (λ (l : Life). l.steps) (own_life w watched.machine c t) in
       let all = pays_for (kernel_bound g.program) (greatest_count g.program) (w.lives c t).steps stand.left j further (x.actions r.family) (steps_of g.program g.stimulus r.family (Some x.state) (go r.branch ∷ [])) refl stand.bound few enough one' in

@@ -2,9 +2,9 @@
 use Rattle.std.proofs.Common.{◌≡◌, ◌≢◌, ℕ, zero, suc, ◌+◌, ◌≤◌, Bool, true, false, List, [], ◌∷◌, ◌++◌, Some, None, option_map, refl, ap, ◌∙◌, arith, eq-eqb}
 use Rattle.std.specs.Prelude.{slice_get, slice_set, nat_eq, not, ◌&&◌}
 use Rattle.std.proofs.lemmas.Bool.{ne_eqb}
-use Rattle.xc_meaning.specs.Counts.Families.{counted_for, family_of_branch, one_if, steps_of}
+use Rattle.xc_meaning.specs.Counts.Families.{counted_for, family_at, family_of_branch, mover, one_if, steps_of}
 use Rattle.xc_meaning.specs.States.Branches.{Birth, Branch, has_ended, all_ended}
-use Rattle.xc_meaning.specs.States.Worlds.{World, Action, go}
+use Rattle.xc_meaning.specs.States.Worlds.{World, Action}
 use Rattle.xr_threads.specs.Runners.{Setting}
 use Rattle.xr_threads.specs.Standing.{counts, is_of_root, living_on, one_where}
 use Rattle.xr_threads.specs.Turns.{OwnAction, own_default, own_go, own_take}
@@ -80,22 +80,17 @@ none_living c (b ∷ bs) h =
     let e = ended_counts c b (first_of_both (has_ended b.mode) (all_ended bs) h) in
     omega (arith, e, none_living c bs (second_of_both (has_ended b.mode) (all_ended bs) h))
 
--- the branch's own step counts for its family
-pub counts_one : (g : Setting) (b : ℕ) (x : World) (branch : Branch) (actions : List Action) → slice_get x.branches b ≡ Some branch → 1 ≤ steps_of g.program g.stimulus branch.family (Some x) (go b ∷ actions)
-counts_one g b x branch actions known =
-    let one : counted_for branch.family (option_map family_of_branch (slice_get x.branches b)) ≡ 1 = ap
-    (λ o. counted_for branch.family (option_map family_of_branch o)) known ∙ ap one_if (eq-eqb branch.family branch.family refl) in
-    omega (arith, one)
+-- an action of a branch's own is a step of its family
+own_moves : (b : ℕ) (x : World) (action : Action) → OwnAction b action → mover x action ≡ family_at x b
+own_moves b x _ own_go = refl
+own_moves b x _ (own_take n) = refl
+own_moves b x _ own_default = refl
 
--- and so does each action of its own
+-- so it counts for that
 pub counts_own : (g : Setting) (b : ℕ) (x : World) (branch : Branch) (action : Action) (actions : List Action) →
     slice_get x.branches b ≡ Some branch → OwnAction b action → 1 ≤ steps_of g.program g.stimulus branch.family (Some x) (action ∷ actions)
-counts_own g b x branch _ actions known own_go = counts_one g b x branch actions known
-counts_own g b x branch _ actions known (own_take n) =
-    let one : counted_for branch.family (option_map family_of_branch (slice_get x.branches b)) ≡ 1 = ap
-    (λ o. counted_for branch.family (option_map family_of_branch o)) known ∙ ap one_if (eq-eqb branch.family branch.family refl) in
-    omega (arith, one)
-counts_own g b x branch _ actions known own_default =
-    let one : counted_for branch.family (option_map family_of_branch (slice_get x.branches b)) ≡ 1 = ap
-    (λ o. counted_for branch.family (option_map family_of_branch o)) known ∙ ap one_if (eq-eqb branch.family branch.family refl) in
+counts_own g b x branch action actions known own =
+    let one : counted_for branch.family (mover x action) ≡ 1 =
+    ap (counted_for branch.family) (own_moves b x action own ∙ ap (option_map family_of_branch) known)
+    ∙ ap one_if (eq-eqb branch.family branch.family refl) in
     omega (arith, one)
