@@ -45,7 +45,7 @@ use Rattle.xr_threads.specs.Items.{EndAt, ItemsAt}
 use Rattle.xr_threads.specs.Parents.{Parent, syncs_of}
 use Rattle.xl_walk.specs.Pieces.{Exit, LinesAt, PieceAt}
 use Rattle.xr_threads.specs.Fits.{Fits, ItemsFit, greatest}
-use Rattle.xr_threads.specs.Runners.{Setting, Runner, IsLaidOut, IsPort, code, end_place, home, places, plan, port_place}
+use Rattle.xr_threads.specs.Runners.{Block, Setting, Runner, IsLaidOut, IsPort, code, end_place, home, places, plan, port_place}
 use Rattle.xr_threads.specs.Transfers.{Transfer, AwaitsNothing, GoesWith, acts_left, items_behind}
 use Rattle.xr_threads.specs.ThreadViews.{ThreadView, Rely, Guarantee, LeadsIn, after, giving_back, running, running_so}
 
@@ -104,7 +104,7 @@ abbrev pub first_hand : List Item → Option Hand
 first_hand (does (kernel.par bs) ∷ rest) = hand_for bs
 first_hand items = None
 
--- a branch takes an event next, where it has chosen among the cases of a `select`
+-- a branch takes an event next: its first item is a `select` whose enabled cases are known
 abbrev pub is_watching : List Item → Bool
 is_watching (chooses choices otherwise ∷ rest) = true
 is_watching items = false
@@ -180,6 +180,12 @@ abbrev pub IsReady : Piece → World → List Item → Type 0
 IsReady (puts_out o v) x rest = eval x.store o.value ≡ word v
 IsReady (takes_in i) x rest = AwaitsNothing rest
 
+-- dp names a block's base and sp a word, and from r1 on stand the names of these synchronisers of a core, the first one's first
+pub record HasBasesBy (block : Block) (stack_word core : ℕ) (syncs : List ℕ) (regs : Regs) : Type 0 where
+  pub base : regs.dp ≡ 4 * block.base
+  pub stack : regs.sp ≡ 4 * stack_word
+  pub names : HoldsNames core syncs regs
+
 module _ (g : Setting) (r : Runner) where
   -- the runner's thread is at an index with these registers
   abbrev pub IsAt : ThreadView → ℕ → Regs → Type 0
@@ -189,14 +195,9 @@ module _ (g : Setting) (r : Runner) where
   abbrev pub IsAtItems : List Item → ThreadView → ℕ → Regs → Type 0
   IsAtItems items z pc regs = slice_get z.core.threads r.thread ≡ Some (running_so (is_watching items) r.tie pc regs)
 
-  -- dp and sp are the runner's, and from r1 on stand the names of the synchronisers of the branches that wait, the innermost one's first
-  pub record HasBasesBy (syncs : List ℕ) (regs : Regs) : Type 0 where
-    pub base : regs.dp ≡ 4 * r.block.base
-    pub stack : regs.sp ≡ 4 * r.stack
-    pub names : HoldsNames r.core syncs regs
-
+  -- dp and sp are the runner's, and the names are those of the branches that wait, the innermost one's first
   abbrev pub HasBases : Regs → Type 0
-  HasBases regs = HasBasesBy (syncs_of r.parents) regs
+  HasBases regs = HasBasesBy r.block r.stack r.core (syncs_of r.parents) regs
 
   -- the words of the variables that the branch may use are those of the store, and the temporary words are there
   pub record HoldsStore (z : ThreadView) : Type 0 where
@@ -220,16 +221,12 @@ module _ (g : Setting) (r : Runner) where
   abbrev pub ItemsFrom : List Item → List Exit → (pc j : ℕ) → Type 0
   ItemsFrom items exits pc j = ItemsAt (plan g r) (code g r) r.sides EndOf items exits pc j
 
-  -- The word that the branch stores next is in r0, where the code of the store begins.
-  pub data WordAt (v pc begins : ℕ) (regs : Regs) (core : CoreState) : Type 0 where
-    in_r0 : regs.r0 ≡ v → begins ≡ pc → WordAt v pc begins regs core
-
   -- Where a thread stands between two own steps, at an index with these registers: at the code of its branch's items, with j jumps
-  -- between them. A store is what an earlier item left to be done: its word is at hand, and behind its code, with whatever registers,
-  -- stands what comes next; the stamps that are stored then are what they are now.
+  -- between them. A store is what an earlier item left to be done: its word is in r0, and behind its code, with whatever registers,
+  -- stands what comes next, as long as the ports whose stamps are due stay.
   abbrev pub StandsAt : List Item → (j pc : ℕ) → Regs → CoreState → Type 0
   StandsAt (stores place v ∷ rest) j pc regs core =
-      (begins : ℕ) × (stored : ℕ) × WordAt v pc begins regs core × LinesAt (code g r) (Stores (plan g r).vars place R0) begins stored
+      (stored : ℕ) × (regs.r0 ≡ v) × LinesAt (code g r) (Stores (plan g r).vars place R0) pc stored
       × ((regs' : Regs) (core' : CoreState) → HasBases regs' → SameStamps g r.core rest core core' → StandsAt rest j stored regs' core')
   StandsAt items j pc regs core = (exits : List Exit) × ItemsFrom items exits pc j
 
@@ -277,7 +274,7 @@ module _ (g : Setting) (r : Runner) where
     pub regs : Regs
     pub exits : List Exit
     pub here : IsAt z pc regs
-    pub bases : HasBasesBy (syncs_of ps) regs
+    pub bases : HasBasesBy r.block r.stack r.core (syncs_of ps) regs
     pub at_code : ItemsAt (plan g r) (code g r) p.sides (EndAt (plan g r) (code g r) r.tie ps) p.items exits (pc + 2) j
     pub pauses : all_wait z.core.threads sync ≡ false → slot (home g r) z.core r.thread ≡ Paused
     pub joins : all_wait z.core.threads sync ≡ true → slot (home g r) z.core r.thread
@@ -417,7 +414,7 @@ module _ (g : Setting) (r : Runner) where
     pub pc : ℕ
     pub regs : Regs
     pub here : IsAt y pc regs
-    pub bases : HasBasesBy (sync ∷ syncs_of r.parents) regs
+    pub bases : HasBasesBy r.block r.stack r.core (sync ∷ syncs_of r.parents) regs
     pub goes : slot (home g r) y.core r.thread ≡ makes (row_goes_on (put_threads y.core (all_started y.core.threads sync)) r.thread (running r.tie pc regs) regs)
     pub jumps : ℕ
     pub fewer : jumps ≤ j + 1

@@ -7,7 +7,7 @@ use Rattle.xs_instr.specs.Registers.{reg_get}
 use Rattle.xl_expr.specs.Stores.{is_working}
 use Rattle.xl_expr.specs.Works.{is_scratch}
 use Rattle.xr_threads.specs.Runners.{Setting, Runner}
-use Rattle.xr_threads.specs.Turns.{HasBasesBy, name_register}
+use Rattle.xr_threads.specs.Turns.{HasBases, name_register}
 
 -- no name stands in a working register
 pub not_working : (k : ℕ) → is_working (name_register k) ≡ false
@@ -29,10 +29,10 @@ not_scratch (suc (suc (suc (suc zero)))) = refl
 not_scratch (suc (suc (suc (suc (suc zero))))) = refl
 not_scratch (suc (suc (suc (suc (suc (suc k)))))) = refl
 
-module _ (g : Setting) (r : Runner) (syncs : List ℕ) (old new : Regs) where
+module _ (g : Setting) (r : Runner) (old new : Regs) where
   -- where no register is changed but some
   pub bases_but : (some : Reg → Bool) → some Dp ≡ false → some Sp ≡ false → ((k : ℕ) → some (name_register k) ≡ false) →
-      ((x : Reg) → some x ≡ false → reg_get new x ≡ reg_get old x) → HasBasesBy g r syncs old → HasBasesBy g r syncs new
+      ((x : Reg) → some x ≡ false → reg_get new x ≡ reg_get old x) → HasBases g r old → HasBases g r new
   bases_but some no_dp no_sp no_name others h = record {
     base = others Dp no_dp ∙ h.base;
     stack = others Sp no_sp ∙ h.stack;
@@ -40,9 +40,9 @@ module _ (g : Setting) (r : Runner) (syncs : List ℕ) (old new : Regs) where
   }
 
   -- none but the working ones
-  pub bases_worked : ((x : Reg) → is_working x ≡ false → reg_get new x ≡ reg_get old x) → HasBasesBy g r syncs old → HasBasesBy g r syncs new
+  pub bases_worked : ((x : Reg) → is_working x ≡ false → reg_get new x ≡ reg_get old x) → HasBases g r old → HasBases g r new
   bases_worked others h = bases_but is_working refl refl not_working others h
 
   -- none but those that expressions use
-  pub bases_scratched : ((x : Reg) → is_scratch x ≡ false → reg_get new x ≡ reg_get old x) → HasBasesBy g r syncs old → HasBasesBy g r syncs new
+  pub bases_scratched : ((x : Reg) → is_scratch x ≡ false → reg_get new x ≡ reg_get old x) → HasBases g r old → HasBases g r new
   bases_scratched others h = bases_but is_scratch refl refl not_scratch others h

@@ -24,7 +24,7 @@ use Rattle.xr_threads.specs.Parents.{syncs_of}
 use Rattle.xr_threads.specs.Runners.{Setting, Runner, IsChannel, IsLaidOut, code, end_place, home, plan, relied}
 use Rattle.xr_threads.specs.ThreadViews.{ThreadView, Rely, running}
 use Rattle.xr_threads.specs.Turns as turn
-use Rattle.xr_threads.specs.Turns.{Communicates, Has, HasBases, IsAt, IsBehind, IsOnSide, ItemsFrom, Leads, StatementLeads, TakesSteps, Turns, cost, in_r0, takes_in}
+use Rattle.xr_threads.specs.Turns.{Communicates, Has, HasBases, IsAt, IsBehind, IsOnSide, ItemsFrom, Leads, StatementLeads, TakesSteps, Turns, cost, takes_in}
 use Rattle.xr_threads.proofs.RelyGuarantee.Arrival.{Since, any_part, apart_of_changes, arrives, at_runs, since_kept}
 use Rattle.xr_threads.proofs.Image.Bases.{bases_scratched, bases_worked}
 use Rattle.xr_threads.proofs.Image.Identifiers.{end_named}
@@ -49,9 +49,8 @@ module _ (g : Setting) (r : Runner) (rest : List Item) (exits : List Exit) (pc p
   stored_behind (Some place) writes regs bases = (
     bases,
     λ core. (
-      pc + length transfer,
       pc',
-      in_r0 refl refl,
+      refl,
       record { lines = write; stand = written; so = writes; end = write_end },
       λ regs' core' bases' still. items_stand g r rest exits
           pc' j regs' core' behind,
@@ -79,8 +78,8 @@ module _ (g : Setting) (r : Runner) (rest : List Item) (exits : List Exit) (pc p
       where
         with_word : (v : ℕ) → HasBases g r (reg_set at.regs R0 v)
         with_word v =
-            bases_scratched g r (syncs_of r.parents) at.regs (reg_set at.regs R0 v) (r0_alone at.regs v)
-            (bases_worked g r (syncs_of r.parents) regs at.regs at.others bases)
+            bases_scratched g r at.regs (reg_set at.regs R0 v) (r0_alone at.regs v)
+            (bases_worked g r regs at.regs at.others bases)
 
         steps : TakesSteps g r c side i.pos (input_acts R0 true) (λ index last. IsBehind g r (storing i.target last.r0 rest) j index last) at.index at.regs
         steps =

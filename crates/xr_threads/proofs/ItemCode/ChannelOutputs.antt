@@ -67,7 +67,7 @@ module _ (g : Setting) (r : Runner) (laid : IsLaidOut g r) (o : kernel.Output) (
   }
     where
       bases' : HasBases g r at.regs
-      bases' = bases_worked g r (syncs_of r.parents) regs at.regs at.others bases
+      bases' = bases_worked g r regs at.regs at.others bases
 
       steps : TakesSteps g r c side o.pos (output_acts v true) (IsBehind g r rest j) at.index at.regs
       steps =

@@ -325,7 +325,7 @@ module _ (g : Setting) (r : Runner) (laid : IsLaidOut g r) (o : kernel.Output) (
                   regs = w.regs;
                   here = here_at rest (items_unwatched g r rest exits pc' j behind)
                       (get_set_same x.core.threads r.thread (running r.tie w.index w.regs) (running r.tie pc' w.regs) w.here);
-                  bases = bases_worked g r (syncs_of r.parents) regs w.regs w.others bases;
+                  bases = bases_worked g r regs w.regs w.others bases;
                   stands = items_stand g r rest exits pc' j w.regs left behind;
                   fits = fit_rest;
                   has = record {

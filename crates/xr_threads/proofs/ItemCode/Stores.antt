@@ -3,23 +3,21 @@
 use Rattle.std.proofs.Common.{◌≡◌, ℕ, ◌+◌, ◌-◌, ◌*◌, ◌≤◌, List, ◌∷◌, length, None, refl, ◌∙◌, subst, arith}
 use Rattle.xs_instr.specs.declared.state.Regs.{Regs}
 use Rattle.xs_instr.specs.OwnSteps.{IsApart}
-use Rattle.xs_instr.specs.declared.instr.Reg.TheVariants.{R0}
 use Rattle.xs_instr.specs.declared.state.CoreState.{CoreState}
 use Rattle.xr_threads.proofs.RelyGuarantee.Stands.{stamps_own, stamps_then}
 use Rattle.xc_kernel.specs.Plain as kernel
 use Rattle.xc_meaning.specs.States.Items.{Item, stores}
 use Rattle.xl_expr.specs.Measures.{nodes_at}
-use Rattle.xl_expr.specs.Stores.{StoreOutcome, Stores, index_in}
+use Rattle.xl_expr.specs.Stores.{StoreOutcome, index_in}
 use Rattle.xr_threads.specs.Fits.{ItemsFit}
-use Rattle.xr_threads.specs.Runners.{Setting, Runner, IsLaidOut, code as code_of, home, plan, relied}
+use Rattle.xr_threads.specs.Runners.{Setting, Runner, IsLaidOut, home, plan, relied}
 use Rattle.xr_threads.specs.ThreadViews.{ThreadView, running}
-use Rattle.xr_threads.specs.Turns.{Has, HasBases, IsAt, Leads, SameStamps, StandsAt, Turns, cost, in_r0}
+use Rattle.xr_threads.specs.Turns.{Has, HasBases, IsAt, Leads, SameStamps, StandsAt, Turns, cost}
 use Rattle.xr_threads.proofs.RelyGuarantee.Arrival.{Since, any_part, apart_of_changes, arrives, at_runs, ports_since, since_kept}
 use Rattle.xr_threads.proofs.ItemCode.Evaluations.{nodes_at_are}
 use Rattle.xr_threads.proofs.RelyGuarantee.Layouts.{has_since, place_laid_at, room_of, runs_at}
 use Rattle.xr_threads.proofs.RelyGuarantee.ThreadViews.{leads_as, leads_more}
 use Rattle.xr_threads.proofs.ItemCode.Writes.{store_turns, target_changed}
-use Rattle.xl_walk.specs.Pieces.{LinesAt}
 
 -- from behind the transfer to the store
 pub stored_leads : (g : Setting) (r : Runner) → IsLaidOut g r →
@@ -27,9 +25,8 @@ pub stored_leads : (g : Setting) (r : Runner) → IsLaidOut g r →
     HasBases g r regs → StandsAt g r (stores place v ∷ rest) j index regs z.core → IsAt g r z index regs →
     Has g r (stores place v ∷ rest) z → ItemsFit g r (stores place v ∷ rest) →
     z.hand ≡ None → Leads g r (cost g r) j z
-stored_leads g r laid place v rest j index regs z bases (begins, stored, in_r0 is at, lines, behind) here has
+stored_leads g r laid place v rest j index regs z bases (stored, is, code, behind) here has
     (((uses_place, changes), counted), rest_fits) no_hand =
-    let code = subst (λ q. LinesAt (code_of g r) (Stores (plan g r).vars place R0) q stored) at lines in
     let at_end = index + length code.lines in
     let i = index_in z.world.store place in
     let most = 8 * nodes_at place - 1 in

@@ -52,7 +52,7 @@ module _ (g : Setting) (r : Runner) (laid : IsLaidOut g r) (t : kernel.Statement
   test_goes z q regs v bases no_hand has is b = by (nat_eq v 0) refl
     where
       bases' : HasBases g r b.regs
-      bases' = bases_scratched g r (syncs_of r.parents) regs b.regs b.others bases
+      bases' = bases_scratched g r regs b.regs b.others bases
 
       acted : (zero : Bool) → nat_eq v 0 ≡ zero → acts g.program g.stimulus q.world (go r.branch) ≡ Some (with_items q.world r.branch has.branch (items_by (not zero) held other))
       acted zero e = test_acts q.world has.branch (word v) has.runs is ∙ ap (λ z'. Some (with_items q.world r.branch has.branch (items_by (not z') held other))) e

@@ -144,7 +144,7 @@ module _ (g : Setting) (r : Runner) (laid : IsLaidOut g r) (item : Item) (place 
       }
 
       bases' : HasBases g r w.regs
-      bases' = bases_worked g r (syncs_of r.parents) regs w.regs w.others bases
+      bases' = bases_worked g r regs w.regs w.others bases
 
       acted : acts g.program g.stimulus q.world (go r.branch) ≡ Some (record (with_items q.world r.branch has.branch rest) { store = store })
       acted =

@@ -268,7 +268,7 @@ module _ (g : Setting) (r : Runner) (v : ℕ) (laid : IsLaidOut g r) (is : IsCha
               pc = pc';
               regs = w.regs;
               here = here_at rest (items_unwatched g r rest exits pc' j behind) (get_set_same x.core.threads r.thread old new w.here);
-              bases = bases_worked g r (syncs_of r.parents) regs w.regs w.others bases;
+              bases = bases_worked g r regs w.regs w.others bases;
               stands = items_stand g r rest exits pc' j w.regs left behind;
               fits = fits;
               has = record {

@@ -545,7 +545,7 @@ module _ {moment : Moment none_rests} {hand : Option Hand} (thread_at : ThreadAt
         regs = b.regs;
         here = here_at first_items (code_unwatched (plan g own) (code g own) own.sides (EndOf g own) first_items [] (b.pc + 1) b.jumps
             (b.own_code from (suc (length b.hand.threads)))) own_left;
-        bases = record { base = b.bases.base; stack = b.bases.stack; names = b.bases.names };
+        bases = b.bases;
         stands = items_stand g own first_items [] (b.pc + 1) b.jumps b.regs left (b.own_code from (suc (length b.hand.threads)));
         fits = fits_here g own first_items outermost_block (fits_of 0 first_placed first_there) refl;
         has = record {

@@ -23,7 +23,7 @@ use Rattle.xr_threads.specs.Fits.{AllFit, BranchesFit, ChangesAt, FitOn, Fits, I
 use Rattle.xr_threads.specs.Runners.{Block, Footprint, Setting, Runner, IsChannel, IsPort, anyone, end_place, footprint_of, home, outside, places, plan, plan_in, shrunk}
 use Rattle.xr_threads.specs.ThreadViews.{ThreadView, running}
 use Rattle.xr_threads.specs.Transfers.{Transfer, acts_left, items_behind}
-use Rattle.xr_threads.specs.Turns.{Has, HasBases, HoldsStore, InTransfer, IsBehind, PortsStand, Rest}
+use Rattle.xr_threads.specs.Turns.{Has, HoldsStore, InTransfer, IsBehind, PortsStand, Rest}
 use Rattle.xr_threads.proofs.RelyGuarantee.Stands.{stands_on}
 
 -- one footprint is within another
@@ -399,19 +399,16 @@ module _ (g : Setting) (r : Runner) (items : List Item) (less : IsWithin (footpr
     pc = h.pc;
     regs = h.regs;
     here = h.here;
-    bases = record { base = h.bases.base; stack = h.bases.stack; names = h.bases.names };
+    bases = h.bases;
     stands = stands_on g r (footprint_of items) r.transfer items j h.pc h.regs z.core h.stands;
     fits = fits_moved g r (shrunk r items) items refl refl refl h.fits;
     has = has_shrinks items z h.has;
   }
 
   -- what stands behind a transfer is the same code
-  bases_shrink : (regs : Regs) → HasBases g r regs → HasBases g (shrunk r items) regs
-  bases_shrink regs h = record { base = h.base; stack = h.stack; names = h.names }
-
   behind_shrinks : (these : List Item) (j index : ℕ) (regs : Regs) → IsBehind g r these j index regs → IsBehind g (shrunk r items) these j index regs
   behind_shrinks these j index regs
-      h = (bases_shrink regs h.0, λ core. stands_on g r (footprint_of items) r.transfer these j index regs core (h.1 core))
+      h = (h.0, λ core. stands_on g r (footprint_of items) r.transfer these j index regs core (h.1 core))
 
   pub transfer_shrinks : (transfer : Transfer) (j : ℕ) (z : ThreadView) → InTransfer g r transfer items j z →
       InTransfer g (shrunk r items) transfer items j z

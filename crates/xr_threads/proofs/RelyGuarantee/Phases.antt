@@ -10,7 +10,7 @@ use Rattle.xr_threads.specs.Fits.{ItemsFit}
 use Rattle.xr_threads.specs.Runners.{IsPort, Runner, Setting, end_place, footprint_of, home}
 use Rattle.xr_threads.specs.ThreadViews.{ThreadView, running}
 use Rattle.xr_threads.specs.Transfers.{Transfer, acts_left, items_behind}
-use Rattle.xr_threads.specs.Turns.{Has, HasBases, HoldsStore, InTransfer, IsBehind, PortsStand, Rest, TakesSteps}
+use Rattle.xr_threads.specs.Turns.{Has, HoldsStore, InTransfer, IsBehind, PortsStand, Rest, TakesSteps}
 use Rattle.xr_threads.proofs.RelyGuarantee.Footprints.{acts_map, fits_moved}
 use Rattle.xr_threads.proofs.RelyGuarantee.Stands.{stands_on}
 
@@ -20,9 +20,6 @@ module _ (g : Setting) (r : Runner) (transfer : Option Transfer) where
 
   port_of : (p : ℕ) (listed : PortUse) → IsPort g s p listed → IsPort g r p listed
   port_of p listed is = record { mine = is.mine; known = is.known; core = is.core }
-
-  bases_as : (regs : Regs) → HasBases g r regs → HasBases g s regs
-  bases_as regs h = record { base = h.base; stack = h.stack; names = h.names }
 
   store_as : (z : ThreadView) → HoldsStore g r z → HoldsStore g s z
   store_as z h = record { holds = h.holds; room = h.room }
@@ -41,7 +38,7 @@ module _ (g : Setting) (r : Runner) (transfer : Option Transfer) where
     pc = h.pc;
     regs = h.regs;
     here = h.here;
-    bases = bases_as h.regs h.bases;
+    bases = h.bases;
     stands = stands_on g r r.footprint transfer items j h.pc h.regs z.core h.stands;
     fits = fits_as items same h.fits;
     has = has_as items z h.has;
@@ -49,7 +46,7 @@ module _ (g : Setting) (r : Runner) (transfer : Option Transfer) where
 
   -- what stands behind the transfer
   pub behind_as : (items : List Item) (j index : ℕ) (regs : Regs) → IsBehind g r items j index regs → IsBehind g s items j index regs
-  behind_as items j index regs h = (bases_as regs h.0, λ core. stands_on g r r.footprint transfer items j index regs core (h.1 core))
+  behind_as items j index regs h = (h.0, λ core. stands_on g r r.footprint transfer items j index regs core (h.1 core))
 
   pub steps_as : (channel : ℕ) (side : Side) (pos : Pos) (acts : List Act) (items : List Item) (j pc : ℕ) (regs : Regs) → TakesSteps g r channel side pos acts (IsBehind g r items j) pc regs → TakesSteps g s channel side pos acts (IsBehind g s items j) pc regs
   steps_as channel side pos acts items j pc regs h = acts_map (home g r) r.thread (end_place g r channel side) (running r.tie pc regs) pos acts (IsBehind g r items j) (IsBehind g s items j) (behind_as items j) pc regs h

@@ -11,9 +11,9 @@ use Rattle.xl_plan.specs.Layout.{port_number}
 use Rattle.xr_threads.specs.Fits.{ItemsFit}
 use Rattle.xr_threads.specs.Runners.{Footprint, IsPort, Setting, Runner, port_place}
 use Rattle.xr_threads.specs.Transfers.{Transfer}
-use Rattle.xr_threads.specs.Turns.{HasBases, ItemsFrom, SameStamps, StandsAt, WordAt, in_r0, is_watching}
+use Rattle.xr_threads.specs.Turns.{ItemsFrom, SameStamps, StandsAt, is_watching}
 
--- The ports of the first items' stamps are the same where all ports are, and where they are twice.
+-- The ports of the first items' stamps are the same where all ports are, and over two steps.
 
 pub stamps_left : (g : Setting) (core : ℕ) (items : List Item) (a b : CoreState) → b.ports ≡ a.ports → SameStamps g core items a b
 stamps_left g core [] a b same = tt
@@ -81,19 +81,15 @@ module _ (g : Setting) (r : Runner) where
   items_stand (fixed i v counter ∷ rest) exits pc j regs core h = (exits, h)
   items_stand (ends ∷ rest) exits pc j regs core h = (exits, h)
 
-  word_kept : (v pc begins : ℕ) (regs : Regs) (a b : CoreState) → WordAt g r v pc begins regs a → WordAt g r v pc begins regs b
-  word_kept v pc begins regs a b (in_r0 is at) = in_r0 is at
-
   -- it stands so in another core too that has the same stamps
   pub stands_kept : (items : List Item) (j pc : ℕ) (regs : Regs) (a b : CoreState) → SameStamps g r.core items a b →
       StandsAt g r items j pc regs a → StandsAt g r items j pc regs b
   stands_kept [] j pc regs a b same h = h
   stands_kept (does s ∷ rest) j pc regs a b same h = h
   stands_kept (says i ∷ rest) j pc regs a b same h = h
-  stands_kept (stores place v ∷ rest) j pc regs a b same (begins, stored, word, lines, next) = (
-    begins,
+  stands_kept (stores place v ∷ rest) j pc regs a b same (stored, word, lines, next) = (
     stored,
-    word_kept v pc begins regs a b word,
+    word,
     lines,
     λ regs' core' bases still. next regs' core' bases
         (stamps_then g r.core rest a b core' same still),
@@ -126,27 +122,16 @@ module _ (g : Setting) (r : Runner) where
     abbrev pub other : Runner
     other = record r { footprint = footprint; transfer = transfer }
 
-    bases_on : (regs : Regs) → HasBases g r regs → HasBases g other regs
-    bases_on regs h = record { base = h.base; stack = h.stack; names = h.names }
-
-    bases_back : (regs : Regs) → HasBases g other regs → HasBases g r regs
-    bases_back regs h = record { base = h.base; stack = h.stack; names = h.names }
-
-    word_on : (v pc begins : ℕ) (regs : Regs) (core : CoreState) → WordAt g r v pc begins regs core → WordAt g other v pc begins regs core
-    word_on v pc begins regs core (in_r0 is at) = in_r0 is at
-
     pub stands_on : (items : List Item) (j pc : ℕ) (regs : Regs) (core : CoreState) → StandsAt g r items j pc regs core →
         StandsAt g other items j pc regs core
     stands_on [] j pc regs core h = h
     stands_on (does s ∷ rest) j pc regs core h = h
     stands_on (says i ∷ rest) j pc regs core h = h
-    stands_on (stores place v ∷ rest) j pc regs core (begins, stored, word, lines, next) = (
-      begins,
+    stands_on (stores place v ∷ rest) j pc regs core (stored, word, lines, next) = (
       stored,
-      word_on v pc begins regs core word,
+      word,
       lines,
-      λ regs' core' bases still. stands_on rest j stored regs' core'
-          (next regs' core' (bases_back regs' bases) still),
+      λ regs' core' bases still. stands_on rest j stored regs' core' (next regs' core' bases still),
     )
     stands_on (stamps resource place v ∷ rest) j pc regs core h = h
     stands_on (mark n ∷ rest) j pc regs core h = h

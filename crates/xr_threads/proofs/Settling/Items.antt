@@ -439,7 +439,7 @@ module _ (g : Setting) (r : Runner) (p : Parent) (ps : List Parent) where
       lasts x x' k has = (k.syncs n (owns x.hand) ∙ has.0, k.hand ∙ has.1)
 
       bases : HasBases g s h.regs
-      bases = record { base = h.bases.base; stack = h.bases.stack; names = h.bases.names }
+      bases = h.bases
 
       behind : (closed : ℕ) × ClosesAt (code g r) (plan g r) c.index closed × ((exits : List Exit) × ItemsAt (plan g r) (code g r) p.sides (EndAt (plan g r) (code g r) r.tie ps) p.items exits closed c.further)
       behind =
