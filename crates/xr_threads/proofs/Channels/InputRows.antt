@@ -30,7 +30,7 @@ use Rattle.xr_threads.proofs.Channels.EndSteps.{gone_on}
 use Rattle.xr_threads.proofs.ItemCode.Evaluations.{err_acts}
 use Rattle.xr_threads.proofs.Relation.Moments.{BranchAt, Moment, ThreadAt}
 use Rattle.xr_threads.proofs.Channels.OwnTransfers as own
-use Rattle.xr_threads.proofs.Channels.OwnTransfers.{ActsAtEnd, alone_still, behind, does_so, has_behind, left, less}
+use Rattle.xr_threads.proofs.Channels.OwnTransfers.{ActsAtEnd, behind, has_behind, left, less}
 use Rattle.xr_threads.proofs.Channels.PieceStarts as start
 use Rattle.xr_threads.proofs.Channels.Protocols.{word_come}
 use Rattle.xr_threads.proofs.RelyGuarantee.Footprints.{transfer_shrinks}
@@ -40,7 +40,7 @@ use Rattle.xr_threads.proofs.RelyGuarantee.Events.{nothing_unwatched}
 use Rattle.xr_wires.specs.Phases.{between, checks_end, spot}
 use Rattle.xr_wires.proofs.All.Frames.{boxed, length_box, parcels}
 use Rattle.xr_wires.proofs.All.Near as near
-use Rattle.xr_wires.proofs.All.Near.{NearEnd, Next, NearInput, inputs_makes, inputs_pauses, inputs_traps}
+use Rattle.xr_wires.proofs.All.Near.{Next}
 use Rattle.xr_wires.proofs.Sides.Found.{is_offer}
 
 -- a word that has come in is to be stored, where there is a place for it

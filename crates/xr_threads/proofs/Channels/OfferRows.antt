@@ -17,7 +17,7 @@ use Rattle.xr_threads.proofs.Channels.EndRows.{AtEnd, Goal, acts_row, boxes_put,
 use Rattle.xr_threads.proofs.Channels.EndSteps.{gone_on}
 use Rattle.xr_threads.proofs.Relation.Moments.{BranchAt, Moment, ThreadAt}
 use Rattle.xr_threads.proofs.Channels.OwnTransfers as own
-use Rattle.xr_threads.proofs.Channels.OwnTransfers.{ActsAtEnd, alone_still, behind, does_so, has_behind, less}
+use Rattle.xr_threads.proofs.Channels.OwnTransfers.{ActsAtEnd, behind, has_behind, less}
 use Rattle.xr_threads.proofs.Channels.PieceStarts as start
 use Rattle.xr_threads.proofs.Channels.Protocols.{offer_sent}
 use Rattle.xr_threads.proofs.RelyGuarantee.Footprints.{transfer_shrinks}
@@ -25,7 +25,6 @@ use Rattle.xr_threads.proofs.RelyGuarantee.Phases.{inside_as}
 use Rattle.xr_wires.specs.Phases.{between, sends_end}
 use Rattle.xr_wires.proofs.All.Frames.{length_box}
 use Rattle.xr_wires.proofs.All.Near as near
-use Rattle.xr_wires.proofs.All.Near.{NearEnd, Next, NearSend, sends_makes, sends_pauses}
 
 module _ {moment : Moment none_rests} {thread_at : ThreadAt moment None} (branch_at : BranchAt thread_at)
     (on : branch_at.branch.mode ≡ runs) (none : thread_at.runner.transfer ≡ None) (j : ℕ) (few : j ≤ branch_at.stand.left)

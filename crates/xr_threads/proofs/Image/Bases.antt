@@ -1,5 +1,5 @@
 -- Registers that code leaves: those that name dp's and sp's words, and the synchronisers of the branches that wait.
-use Rattle.std.proofs.Common.{◌≡◌, ℕ, zero, suc, Bool, false, List, refl, ◌∙◌}
+use Rattle.std.proofs.Common.{◌≡◌, ℕ, zero, suc, Bool, false, refl, ◌∙◌}
 use Rattle.xs_instr.specs.declared.instr.Reg.{Reg}
 use Rattle.xs_instr.specs.declared.instr.Reg.TheVariants.{Dp, Sp}
 use Rattle.xs_instr.specs.declared.state.Regs.{Regs}

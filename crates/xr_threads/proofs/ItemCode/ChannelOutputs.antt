@@ -22,7 +22,6 @@ use Rattle.xl_expr.specs.Measures.{nodes}
 use Rattle.xl_sides.specs.Ends.{end_at}
 use Rattle.xl_walk.specs.Pieces.{ByEndAt, Exit}
 use Rattle.xr_threads.specs.Fits.{Fits, ItemsFit, OutputFits}
-use Rattle.xr_threads.specs.Parents.{syncs_of}
 use Rattle.xr_threads.specs.Runners.{Setting, Runner, IsChannel, IsLaidOut, code, end_place, home, plan, relied}
 use Rattle.xr_threads.specs.ThreadViews.{ThreadView, Rely, running}
 use Rattle.xr_threads.specs.Turns as turn

@@ -17,7 +17,7 @@ use Rattle.xl_walk.specs.Pieces as pieces
 use Rattle.xr_threads.specs.Runners.{Setting, Runner, code, home, plan}
 use Rattle.xr_threads.specs.ThreadViews.{IsStable, LeadsIn, ThreadView, IsSilentStep, after, keeps, running}
 use Rattle.xr_threads.specs.Turns as turn
-use Rattle.xr_threads.specs.Turns.{StatementLeads, IsAt, HasBases, Has, Leads, Turns, cost}
+use Rattle.xr_threads.specs.Turns.{StatementLeads, IsAt, Has, Leads, Turns, cost}
 use Rattle.xr_threads.proofs.RelyGuarantee.ThreadViews.{leads_now}
 use Rattle.xr_threads.proofs.RelyGuarantee.Arrival.{at_runs, same_use}
 use Rattle.xr_threads.proofs.RelyGuarantee.Layouts.{has_kept, ports_last}

@@ -18,7 +18,6 @@ use Rattle.xl_expr.specs.Works.{steps_before}
 use Rattle.xl_flow.specs.Flow.{Branches, TestOutcome, chosen}
 use Rattle.xl_walk.specs.Pieces.{Exit, TestAt}
 use Rattle.xr_threads.specs.Fits.{ItemsFit, Uses, greatest}
-use Rattle.xr_threads.specs.Parents.{syncs_of}
 use Rattle.xr_threads.specs.Runners.{Setting, Runner, IsLaidOut, code, home, plan, relied}
 use Rattle.xr_threads.specs.ThreadViews.{ThreadView, running}
 use Rattle.xr_threads.specs.Turns as turn

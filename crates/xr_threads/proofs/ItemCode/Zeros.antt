@@ -23,7 +23,6 @@ use Rattle.xl_expr.proofs.ResourceParts.{others_same}
 use Rattle.xl_flow.specs.Zeros.{IsOutside, StandsFrom, WordsStand, WritesLast, words_set}
 use Rattle.xl_walk.specs.Pieces.{Exit}
 use Rattle.xr_threads.specs.Fits.{IsChanged, ItemsFit}
-use Rattle.xr_threads.specs.Parents.{syncs_of}
 use Rattle.xr_threads.specs.Runners.{Block, Setting, Runner, IsLaidOut, MayChange, of_variable, home, places, plan_in, relied}
 use Rattle.xr_threads.specs.ThreadViews.{ThreadView, running}
 use Rattle.xr_threads.specs.Turns as turn

@@ -20,7 +20,7 @@ use Rattle.xr_threads.specs.Standing.{HasEnded, Stand, StandsBy, StandsWith, Thr
 use Rattle.xr_threads.specs.Transfers.{StopsIn, Transfer}
 use Rattle.xr_threads.specs.Turns.{Errs, Frees, Goes, IsTiedThread, IsWaitingTied, Waits, cost, failed, finished, is_watching}
 use Rattle.xr_threads.proofs.OwnSteps.Answers.{errs_step, frees_step, goes_step, trap_leaves, waits_step}
-use Rattle.xr_threads.proofs.Relation.Counts.{counts_own, made_counts, root_counts}
+use Rattle.xr_threads.proofs.Relation.Counts.{made_counts, root_counts}
 use Rattle.xr_threads.proofs.RelyGuarantee.Less.{uses_less}
 use Rattle.xr_threads.proofs.Lives.OwnLife.{own_life}
 use Rattle.xr_threads.proofs.Relation.Moments.{BranchAt, Moment, ThreadAt}

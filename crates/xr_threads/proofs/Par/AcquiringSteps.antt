@@ -13,11 +13,11 @@ use Rattle.xc_meaning.specs.States.Items.{Item}
 use Rattle.xl_expr.proofs.Lists.{get_set_other, get_set_same, room_kept}
 use Rattle.xl_expr.proofs.ResourceParts.{others_same}
 use Rattle.xl_par.specs.Hands as hands
-use Rattle.xl_par.specs.Hands.{Hand, HandStep, HasSpare, IsAmong, KeptHand, WithinHand, own_only, with_sync, with_thread_got}
+use Rattle.xl_par.specs.Hands.{Hand, HandStep, IsAmong, KeptHand, WithinHand, own_only}
 use Rattle.xr_threads.specs.Runners.{Setting, Runner, home, port_place, relied}
 use Rattle.xr_threads.specs.ThreadViews as views
 use Rattle.xr_threads.specs.Sizes.{sizes_of}
-use Rattle.xr_threads.specs.ThreadViews.{Guarantee, HandChange, IsSilentStep, LeadsIn, Rely, SameUse, SpareFor, StillRuns, ThreadView, held_in, sync_in}
+use Rattle.xr_threads.specs.ThreadViews.{Guarantee, HandChange, IsSilentStep, LeadsIn, Rely, SpareFor, StillRuns, ThreadView, held_in, sync_in}
 use Rattle.xr_threads.specs.Turns.{Has}
 use Rattle.xr_threads.proofs.RelyGuarantee.Arrival.{same_use, stack_relied}
 use Rattle.xr_threads.proofs.RelyGuarantee.Layouts.{has_kept, ports_last}

@@ -22,7 +22,7 @@ use Rattle.xc_meaning.specs.States.Items.{Item, awaits, does}
 use Rattle.xc_meaning.specs.States.Worlds.{World}
 use Rattle.xc_meaning.specs.Uses.{by_items}
 use Rattle.xl_chan.specs.Protocols as protocol
-use Rattle.xl_chan.specs.Protocols.{Act, Acts, sends, takes_word}
+use Rattle.xl_chan.specs.Protocols.{Acts, sends}
 use Rattle.xl_image.specs.Images.{pair_of}
 use Rattle.xl_par.specs.Hands.{Hand}
 use Rattle.xr_match.specs.Implements.{IsQuietMachine}
