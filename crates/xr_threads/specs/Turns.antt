@@ -223,10 +223,10 @@ module _ (g : Setting) (r : Runner) where
 
   -- Where a thread stands between two own steps, at an index with these registers: at the code of its branch's items, with j jumps
   -- between them. A store is what an earlier item left to be done: its word is in r0, and behind its code, with whatever registers,
-  -- stands what comes next, as long as the ports whose stamps are due stay.
+  -- stands what comes next, which takes no event, as long as the ports whose stamps are due stay.
   abbrev pub StandsAt : List Item → (j pc : ℕ) → Regs → CoreState → Type 0
   StandsAt (stores place v ∷ rest) j pc regs core =
-      (stored : ℕ) × (regs.r0 ≡ v) × LinesAt (code g r) (Stores (plan g r).vars place R0) pc stored
+      (stored : ℕ) × (regs.r0 ≡ v) × LinesAt (code g r) (Stores (plan g r).vars place R0) pc stored × (is_watching rest ≡ false)
       × ((regs' : Regs) (core' : CoreState) → HasBases regs' → SameStamps g r.core rest core core' → StandsAt rest j stored regs' core')
   StandsAt items j pc regs core = (exits : List Exit) × ItemsFrom items exits pc j
 
@@ -435,9 +435,9 @@ module _ (g : Setting) (r : Runner) where
     pub fits : ItemsFit g r (does (kernel.par (kernel.more_branches (kernel.branch first first_pos) others)) ∷ rest)
     pub has : Has (does (kernel.par (kernel.more_branches (kernel.branch first first_pos) others)) ∷ rest) y
 
-  -- Behind the last step of a transfer the thread stands at an index with these registers, whatever the core is then.
+  -- Behind the last step of a transfer the thread stands at an index with these registers, whatever the core is then, and takes no event.
   abbrev pub IsBehind : List Item → (j index : ℕ) → Regs → Type 0
-  IsBehind items j index regs = HasBases regs × ((core : CoreState) → StandsAt items j index regs core)
+  IsBehind items j index regs = HasBases regs × (is_watching items ≡ false) × ((core : CoreState) → StandsAt items j index regs core)
 
   -- the branch has this transfer to do next, on a side of its channel in which it stands
   pub record IsOnChannel (used : KRes) : Type 0 where

@@ -23,9 +23,8 @@ use Rattle.xr_threads.proofs.ItemCode.Evaluations.{err_acts}
 use Rattle.xr_threads.proofs.Relation.Moments.{BranchAt, Moment, ThreadAt}
 use Rattle.xr_threads.proofs.OwnSteps.Events.{rests_alone, rests_there}
 use Rattle.xr_threads.proofs.Channels.OwnTransfers as own
-use Rattle.xr_threads.proofs.Channels.OwnTransfers.{ActsAtEnd, behind, does_so, has_behind, left, less}
+use Rattle.xr_threads.proofs.Channels.OwnTransfers.{ActsAtEnd, behind, has_behind, left, less}
 use Rattle.xr_threads.proofs.RelyGuarantee.Footprints.{rest_shrinks}
-use Rattle.xr_threads.proofs.RelyGuarantee.Stands.{stands_unwatched}
 use Rattle.xr_threads.proofs.Channels.TransferErrs.{errs_followed}
 use Rattle.xr_threads.proofs.Channels.TransferRows.{alone_elsewhere}
 use Rattle.xr_threads.proofs.RelyGuarantee.Phases.{rest_as}
@@ -33,7 +32,7 @@ use Rattle.xr_threads.proofs.RelyGuarantee.Events.{here_at}
 use Rattle.xr_wires.specs.Phases.{awaits_ack, between, offers, spot}
 use Rattle.xr_wires.proofs.All.Frames.{boxed, length_box, parcels}
 use Rattle.xr_wires.proofs.All.Near as near
-use Rattle.xr_wires.proofs.All.Near.{NearCheck, NearEnd, Next, checks_makes, checks_pauses, checks_traps}
+use Rattle.xr_wires.proofs.All.Near.{Next}
 use Rattle.xr_wires.proofs.Sides.Found.{is_taken}
 
 module _ {moment : Moment none_rests} {thread_at : ThreadAt moment None} (branch_at : BranchAt thread_at)
@@ -87,7 +86,7 @@ module _ {moment : Moment none_rests} {thread_at : ThreadAt moment None} (branch
       is_next = record { clocks = refl; branches = refl; store = λ k e. refl; trace = refl };
       store = refl;
       has = h.has;
-      unwatched = stands_unwatched g r rest j (h.pc + 1) h.regs a (code_behind.1 a);
+      unwatched = code_behind.1;
       transfer = None;
     }
 
@@ -106,7 +105,7 @@ module _ {moment : Moment none_rests} {thread_at : ThreadAt moment None} (branch
                   regs = h.regs;
                   here = here_at rest does_answer.unwatched (gone_on g r a h.pc h.regs h.regs h.here es);
                   bases = code_behind.0;
-                  stands = code_behind.1 (left does_answer es);
+                  stands = code_behind.2 (left does_answer es);
                   fits = (subst (ItemsFit g r) h.goes_with.1 h.fits).1;
                   has = has_behind does_answer es;
                 })),

@@ -26,6 +26,7 @@ use Rattle.xr_threads.specs.ThreadViews.{running}
 use Rattle.xr_threads.specs.Transfers.{AwaitsNothing, acts_left}
 use Rattle.xr_threads.specs.Turns.{HasBases, IsBehind, ItemsFrom, TakesSteps}
 use Rattle.xr_wires.specs.Phases.{awaits_ack, checks_end, offers, sends_ack, sends_end}
+use Rattle.xr_threads.proofs.RelyGuarantee.Events.{items_unwatched}
 use Rattle.xr_threads.proofs.RelyGuarantee.Stands.{items_stand}
 
 -- Steps of a protocol don't depend on where the thread began it.
@@ -136,4 +137,8 @@ module _ (g : Setting) (r : Runner) where
 
   -- the code of items may stand there
   pub behind_of_items : (items : List Item) (exits : List Exit) (pc j : ℕ) (regs : Regs) → HasBases g r regs → ItemsFrom g r items exits pc j → IsBehind g r items j pc regs
-  behind_of_items items exits pc j regs bases h = (bases, λ core. items_stand g r items exits pc j regs core h)
+  behind_of_items items exits pc j regs bases h = (
+    bases,
+    items_unwatched g r items exits pc j h,
+    λ core. items_stand g r items exits pc j regs core h,
+  )

@@ -19,12 +19,10 @@ use Rattle.xr_threads.proofs.Channels.EndSteps.{gone_on}
 use Rattle.xr_threads.proofs.Relation.Moments.{BranchAt, Moment, ThreadAt}
 use Rattle.xr_threads.proofs.OwnSteps.Events.{rests_alone, rests_there}
 use Rattle.xr_threads.proofs.Channels.Protocols.{ack_sent, end_sent, end_taken}
-use Rattle.xr_threads.proofs.RelyGuarantee.Stands.{stands_unwatched}
 use Rattle.xr_threads.proofs.RelyGuarantee.Phases.{fits_as, has_as, rest_as, steps_as}
 use Rattle.xr_threads.proofs.RelyGuarantee.Events.{here_at}
 use Rattle.xr_wires.specs.Phases.{Phase, awaits_ack, between, checks_end, offers, sends_ack, sends_end}
 use Rattle.xr_wires.proofs.All.Near as near
-use Rattle.xr_wires.proofs.All.Near.{NearEnd, NearEndCheck, Next, NearSend, end_makes, end_pauses, sends_makes, sends_pauses}
 
 -- nobody is at rest on another core
 pub alone_elsewhere : (c : ℕ) (b : Bool) (d : ℕ) → d ≢ c → (nat_eq d c && b) ≡ false
@@ -126,9 +124,9 @@ module _ {moment : Moment none_rests} {thread_at : ThreadAt moment None} (branch
           rest_as g r None branch.items j then stand.footprint (record {
             pc = h.pc + 1;
             regs = h.regs;
-            here = here_at branch.items (stands_unwatched g r branch.items j (h.pc + 1) h.regs then.core (out_behind.1 then.core)) out_here;
+            here = here_at branch.items out_behind.1 out_here;
             bases = out_behind.0;
-            stands = out_behind.1 then.core;
+            stands = out_behind.2 then.core;
             fits = h.fits;
             has = has_still h.pc h.regs h.here es h.has;
           }),

@@ -22,11 +22,12 @@ use Rattle.xr_threads.specs.Fits.{ItemsFit, Uses, UsesAt}
 use Rattle.xr_threads.specs.Runners.{Setting, Runner, IsLaidOut, home, plan, relied}
 use Rattle.xr_threads.specs.ThreadViews.{ThreadView, running}
 use Rattle.xr_threads.specs.Turns as turn
-use Rattle.xr_threads.specs.Turns.{StatementLeads, IsAt, ItemsFrom, HasBases, HoldsStore, Has, Runs, Goes, Turn, Turns, cost}
+use Rattle.xr_threads.specs.Turns.{StatementLeads, ItemsFrom, HasBases, Has, Turn, Turns, cost}
 use Rattle.xr_threads.proofs.RelyGuarantee.ThreadViews.{leads_as, leads_more}
 use Rattle.xr_threads.proofs.RelyGuarantee.Arrival.{Since, at_runs, any_part, since_kept, core_kept, apart_of_changes, arrives}
 use Rattle.xr_threads.proofs.RelyGuarantee.Layouts.{has_since, room_of, runs_at, laid_at, place_laid_at}
 use Rattle.xr_threads.proofs.ItemCode.Evaluations.{nodes_are, nodes_at_are, eval_still, value_errs}
+use Rattle.xr_threads.proofs.RelyGuarantee.Events.{items_unwatched}
 use Rattle.xr_threads.proofs.RelyGuarantee.Stands.{items_stand}
 use Rattle.xr_threads.proofs.ItemCode.Writes.{store_turns, target_changed}
 
@@ -62,7 +63,8 @@ module _ (g : Setting) (r : Runner) (laid : IsLaidOut g r) where
         by (word v) e writes =
             store_turns g r laid item place rest pc pc' j uses_place changes
             (or_left (by_target (change (variable_of place)) place) (by_expression (change (variable_of place)) x)
-            (target_changed place)) rest_fits q (λ regs' core' bases' still. items_stand g r rest exits pc' j regs' core' behind) z y
+            (target_changed place)) rest_fits (items_unwatched g r rest exits pc' j behind) q
+            (λ regs' core' bases' still. items_stand g r rest exits pc' j regs' core' behind) z y
             regs v i bases k since' (since'.hand ∙ no_hand) has_q
             (set_step q.world has_q.branch (word v) (still (word v) e)) is_index writes
         by (error kind pos) e traps =

@@ -20,7 +20,6 @@ use Rattle.xl_expr.proofs.Runs.{r0_alone}
 use Rattle.xl_sides.specs.Ends.{end_at}
 use Rattle.xl_walk.specs.Pieces.{ByEndAt, Exit, InputAt}
 use Rattle.xr_threads.specs.Fits.{Fits, ItemsFit, TakesInAt}
-use Rattle.xr_threads.specs.Parents.{syncs_of}
 use Rattle.xr_threads.specs.Runners.{Setting, Runner, IsChannel, IsLaidOut, code, end_place, home, plan, relied}
 use Rattle.xr_threads.specs.ThreadViews.{ThreadView, Rely, running}
 use Rattle.xr_threads.specs.Turns as turn
@@ -32,6 +31,7 @@ use Rattle.xr_threads.proofs.RelyGuarantee.Layouts.{has_since, room_of, runs_at}
 use Rattle.xr_threads.proofs.ItemCode.OnEnds.{end_stands, on_end}
 use Rattle.xr_threads.proofs.Channels.Protocols.{all_from, behind_of_items, nothing_awaited}
 use Rattle.xr_threads.proofs.RelyGuarantee.ThreadViews.{leads_as, leads_more}
+use Rattle.xr_threads.proofs.RelyGuarantee.Events.{items_unwatched}
 use Rattle.xr_threads.proofs.RelyGuarantee.Stands.{items_stand}
 
 -- The code of an input from an index on: its transfer's lines, and then those that write the word.
@@ -48,10 +48,12 @@ module _ (g : Setting) (r : Runner) (rest : List Item) (exits : List Exit) (pc p
       behind_of_items g r rest exits (pc + length transfer) j regs bases (subst (λ p. ItemsFrom g r rest exits p j) same behind)
   stored_behind (Some place) writes regs bases = (
     bases,
+    refl,
     λ core. (
       pc',
       refl,
       record { lines = write; stand = written; so = writes; end = write_end },
+      items_unwatched g r rest exits pc' j behind,
       λ regs' core' bases' still. items_stand g r rest exits
           pc' j regs' core' behind,
     ),

@@ -25,7 +25,7 @@ pub stored_leads : (g : Setting) (r : Runner) → IsLaidOut g r →
     HasBases g r regs → StandsAt g r (stores place v ∷ rest) j index regs z.core → IsAt g r z index regs →
     Has g r (stores place v ∷ rest) z → ItemsFit g r (stores place v ∷ rest) →
     z.hand ≡ None → Leads g r (cost g r) j z
-stored_leads g r laid place v rest j index regs z bases (stored, is, code, behind) here has
+stored_leads g r laid place v rest j index regs z bases (stored, is, code, unwatched, behind) here has
     (((uses_place, changes), counted), rest_fits) no_hand =
     let at_end = index + length code.lines in
     let i = index_in z.world.store place in
@@ -44,7 +44,7 @@ stored_leads g r laid place v rest j index regs z bases (stored, is, code, behin
     let has_q = has_since g r laid (stores place v ∷ rest) z q since (since.room has.holds.room) has in
     let stamps = stamps_own g r rest z.core q.core
     (λ p listed is. ports_since g r (IsApart r.stack) any_part z q since p listed is tt) rest_fits in
-    store_turns g r laid (stores place v) place rest index at_end j uses_place changes (target_changed place) rest_fits q
+    store_turns g r laid (stores place v) place rest index at_end j uses_place changes (target_changed place) rest_fits unwatched q
     (λ regs' core' bases' still. behind' regs' core' bases' (stamps_then g r.core rest z.core q.core core' stamps still)) z y regs v i
     bases k since (since.hand ∙ no_hand) has_q
     refl refl (subst (λ w. outcome w y) is h.0))

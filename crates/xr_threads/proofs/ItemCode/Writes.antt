@@ -27,11 +27,10 @@ use Rattle.xl_expr.proofs.Framed.{store_holds}
 use Rattle.xl_expr.proofs.Lasting.{address_lasts}
 use Rattle.xl_expr.proofs.Lists.{get_set_other}
 use Rattle.xr_threads.specs.Fits.{ItemsFit, UsesAt}
-use Rattle.xr_threads.specs.Parents.{syncs_of}
 use Rattle.xr_threads.specs.Runners.{Setting, Runner, IsLaidOut, MayChange, of_variable, home, places, plan, plan_in, relied}
 use Rattle.xr_threads.specs.ThreadViews.{ThreadView, Rely, running}
 use Rattle.xr_threads.specs.Turns as turn
-use Rattle.xr_threads.specs.Turns.{HasBases, Has, Goes, SameStamps, StandsAt, Turn}
+use Rattle.xr_threads.specs.Turns.{HasBases, Has, Goes, SameStamps, StandsAt, Turn, is_watching}
 use Rattle.xr_threads.proofs.RelyGuarantee.Arrival.{Since, any_part, core_kept}
 use Rattle.xr_threads.proofs.Image.Bases.{bases_worked}
 use Rattle.xr_threads.proofs.ItemCode.Evaluations.{index_still, item_acts, value_errs, with_items}
@@ -107,7 +106,8 @@ target_changed (kernel.element v index pos) = or_left (nat_eq v v) (by_expressio
 -- An item by which the branch stores a word at a place.
 module _ (g : Setting) (r : Runner) (laid : IsLaidOut g r) (item : Item) (place : kernel.Place) (rest : List Item) (pc pc' j : ℕ)
     (uses_place : UsesAt g r place) (changes : r.footprint.changes (variable_of place) ≡ true)
-    (changed_first : by_item (change (variable_of place)) item ≡ true) (rest_fits : ItemsFit g r rest) (q : ThreadView)
+    (changed_first : by_item (change (variable_of place)) item ≡ true) (rest_fits : ItemsFit g r rest)
+    (unwatched : is_watching rest ≡ false) (q : ThreadView)
     (behind : (regs' : Regs) (core' : CoreState) → HasBases g r regs' → SameStamps g r.core rest q.core core' →
     StandsAt g r rest j pc' regs' core') where
   -- what its step is there
@@ -121,7 +121,7 @@ module _ (g : Setting) (r : Runner) (laid : IsLaidOut g r) (item : Item) (place 
       IsAddress (places g r.core) (relied g r) r.stack (4 * 0) q.core.words place i address →
       Writes (home g r) (relied g r) r.stack r.thread (running r.tie pc regs) z.core.words address v pc' q.core → Goes g r j q
   write_goes z regs v i address bases no_hand has is is_index at_address w =
-      own_goes g r j q pc' w.regs words made bases' no_hand item rest rest store has acted same holds room j
+      own_goes g r j q pc' w.regs words made bases' no_hand item rest rest store has acted same holds room unwatched j
       (λ core still. behind w.regs core bases' still) rest_fits (omega arith)
     where
       words : List ℕ

@@ -23,12 +23,12 @@ use Rattle.xl_walk.specs.Pieces.{Exit}
 use Rattle.xr_threads.specs.Fits.{ItemsFit}
 use Rattle.xr_threads.specs.Runners.{Setting, Runner, MayChange, home, places}
 use Rattle.xr_threads.specs.ThreadViews.{ThreadView, running}
-use Rattle.xr_threads.specs.Turns.{HasBases, Has, IsAt, ItemsFrom, Goes, SameStamps, StandsAt, first_changes, own_go}
+use Rattle.xr_threads.specs.Turns.{HasBases, Has, IsAt, ItemsFrom, Goes, SameStamps, StandsAt, first_changes, is_watching, own_go}
 use Rattle.xr_threads.proofs.ItemCode.Evaluations.{runs_with, with_items}
 use Rattle.xr_threads.proofs.RelyGuarantee.Layouts.{ports_last}
 use Rattle.xr_threads.proofs.Relation.Sizes.{words_sized}
-use Rattle.xr_threads.proofs.RelyGuarantee.Stands.{items_stand, stamps_left, stands_unwatched}
-use Rattle.xr_threads.proofs.RelyGuarantee.Events.{here_at}
+use Rattle.xr_threads.proofs.RelyGuarantee.Stands.{items_stand, stamps_left}
+use Rattle.xr_threads.proofs.RelyGuarantee.Events.{here_at, items_unwatched}
 
 -- the turn of a running thread that takes no events is the row of its instruction
 pub turn_is_row : (h : Home) (a : CoreState) (t : ℕ) (tie : Option ℕ) (pc : ℕ) (regs : Regs) (i : Instr) → slice_get a.threads t ≡ Some (running tie pc regs) → instr_at h pc ≡ Some i → is_waiteu (Some i) ≡ false → slot h a t ≡ row h a t (running tie pc regs) i
@@ -52,10 +52,10 @@ module _ (g : Setting) (r : Runner) where
       (item : Item) (rest items : List Item) (store : Store) (has : Has g r (item ∷ rest) y) →
       acts g.program g.stimulus y.world (go r.branch) ≡ Some (record (with_items y.world r.branch has.branch items) { store = store }) →
       ((v : ℕ) → by_item (change v) item ≡ false → words_of store v ≡ words_of y.world.store v) →
-      Holds (places g r.core) r.footprint.uses 0 words store → r.stack + temporary ≤ length words →
+      Holds (places g r.core) r.footprint.uses 0 words store → r.stack + temporary ≤ length words → is_watching items ≡ false →
       (jumps : ℕ) → ((core : CoreState) → SameStamps g r.core items y.core core → StandsAt g r items jumps pc regs core) →
       ItemsFit g r items → jumps ≤ j + 1 → Goes g r j y
-  own_goes j y pc regs words made bases no_hand item rest items store has acted same holds room jumps stands fits fewer =
+  own_goes j y pc regs words made bases no_hand item rest items store has acted same holds room unwatched jumps stands fits fewer =
       let th = running r.tie made.index regs in
       let th' = running r.tie pc regs in
       let left = put_own y.core r.thread th (record { pc = pc; regs = regs; words = words }) in
@@ -101,7 +101,7 @@ module _ (g : Setting) (r : Runner) where
         rest = record {
           pc = pc;
           regs = regs;
-          here = here_at items (stands_unwatched g r items jumps pc regs left stand)
+          here = here_at items unwatched
               (get_set_same y.core.threads r.thread th th' made.here);
           bases = bases;
           stands = stand;
@@ -123,4 +123,5 @@ module _ (g : Setting) (r : Runner) where
       (exits : List Exit) (jumps : ℕ) → ItemsFrom g r items exits pc jumps → ItemsFit g r items → jumps ≤ j + 1 → Goes g r j y
   spot_goes j y pc regs made bases no_hand item rest items has acted exits jumps at_code fits fewer =
       own_goes j y pc regs y.core.words made bases no_hand item rest items y.world.store has acted (λ v c. refl) has.holds.holds
-      has.holds.room jumps (λ core same. items_stand g r items exits pc jumps regs core at_code) fits fewer
+      has.holds.room (items_unwatched g r items exits pc jumps at_code) jumps
+      (λ core same. items_stand g r items exits pc jumps regs core at_code) fits fewer

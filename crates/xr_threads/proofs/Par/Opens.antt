@@ -48,7 +48,7 @@ use Rattle.xr_threads.specs.Items.{EndAt, ItemsAt}
 use Rattle.xr_threads.specs.Transfers.{Transfer}
 use Rattle.xr_threads.specs.Roles.{AreRoles, AreUsedSo, HasReserves, IsParent, ParentsWait, Roles, empty, got_by, own_branches, unused, used_by}
 use Rattle.xr_threads.specs.Standing.{AreLoose, IsMade, IsRun, IsWanted, Stand, Stands, StandsBy, ThreadIs, counts, is_of_root, living_on, none_rests, one_where}
-use Rattle.xr_threads.specs.Turns.{Begins, EndOf, HoldsStore, IsFree, IsSetOff, IsWaitingTied, Placed, Rest, backwards, cost, is_watching, placed_in}
+use Rattle.xr_threads.specs.Turns.{Begins, HoldsStore, IsFree, IsSetOff, IsWaitingTied, Placed, Rest, backwards, cost, is_watching, placed_in}
 use Rattle.xr_threads.proofs.RelyGuarantee.Holding.{loose_behind}
 use Rattle.xr_threads.proofs.Par.Joins.{parents_below}
 use Rattle.xr_threads.proofs.Lives.OwnLife.{own_life}
@@ -63,7 +63,7 @@ use Rattle.xr_threads.proofs.Relation.Reserves.{GiveAsBefore, reserves_behind, r
 use Rattle.xr_threads.proofs.RelyGuarantee.Footprints.{IsWithin, branch_fits, fits_everywhere, fits_here}
 use Rattle.xr_threads.proofs.Par.SetOff.{back_at, back_length, branch_within, code_of, living_both, living_new, off_at, off_length}
 use Rattle.xr_threads.proofs.RelyGuarantee.Stands.{items_stand}
-use Rattle.xr_threads.proofs.RelyGuarantee.Events.{code_unwatched, events_on, here_at, rest_unwatched}
+use Rattle.xr_threads.proofs.RelyGuarantee.Events.{code_unwatched, events_on, here_at, items_unwatched}
 
 -- the items of a branch, and its sides, where there is one
 abbrev pub items_at : Option Placed → List Item
@@ -537,14 +537,16 @@ module _ {moment : Moment none_rests} {hand : Option Hand} (thread_at : ThreadAt
   first_there : slice_get all_placed 0 ≡ Some first_placed
   first_there = refl
 
+  first_unwatched : is_watching first_items ≡ false
+  first_unwatched = items_unwatched g own first_items [] (b.pc + 1) b.jumps (b.own_code from (suc (length b.hand.threads)))
+
   own_rest : (branch : Branch) → slice_get world.branches from ≡ Some branch → branch.mode ≡ runs → branch.core ≡ r.core → branch.items ≡ first_items → Rest g own first_items b.jumps (record { core = left; world = world; hand = None })
   own_rest branch there mode on_core items_are =
       let less = less_of 0 first_placed first_there in
       record {
         pc = b.pc + 1;
         regs = b.regs;
-        here = here_at first_items (code_unwatched (plan g own) (code g own) own.sides (EndOf g own) first_items [] (b.pc + 1) b.jumps
-            (b.own_code from (suc (length b.hand.threads)))) own_left;
+        here = here_at first_items first_unwatched own_left;
         bases = b.bases;
         stands = items_stand g own first_items [] (b.pc + 1) b.jumps b.regs left (b.own_code from (suc (length b.hand.threads)));
         fits = fits_here g own first_items outermost_block (fits_of 0 first_placed first_there) refl;
@@ -650,8 +652,8 @@ module _ {moment : Moment none_rests} {hand : Option Hand} (thread_at : ThreadAt
           tied = refl;
           events = events_on branch.mode
               branch.items false new.mode (sym
-              (ap is_watching new.items ∙ rest_unwatched g (kid i u) (todo k.0.code (ends ∷ [])) 0
-              (record { core = left; world = world; hand = None }) rest));
+              (ap is_watching new.items ∙ code_unwatched (plan g r) (code g r) k.0.sides (EndAt (plan g r) (code g r) (Some b.sync) [])
+              (todo k.0.code (ends ∷ [])) [] k.1.pc 0 k.1.at_code));
           is = subst (λ m. ThreadIs [] m Running) (sym new.mode) refl;
         };
         in_hand = empty refl;
@@ -740,8 +742,7 @@ module _ {moment : Moment none_rests} {hand : Option Hand} (thread_at : ThreadAt
             there = own_left;
             tied = refl;
             events = events_on branch.mode branch.items false new.mode
-                (sym (ap is_watching new.items ∙ rest_unwatched g own first_items b.jumps
-                (record { core = left; world = world; hand = None }) rest));
+                (sym (ap is_watching new.items ∙ first_unwatched));
             is = subst (λ m. ThreadIs own.parents m Running)
                 (sym new.mode) refl;
           };

@@ -11,11 +11,10 @@ use Rattle.xl_sides.specs.Ends.{Sides}
 use Rattle.xl_walk.specs.Pieces.{Exit}
 use Rattle.xr_threads.specs.Items.{ItemsAt}
 use Rattle.xr_threads.specs.Runners.{Setting, Runner, code, plan}
-use Rattle.xr_threads.specs.ThreadViews.{ThreadView, running, running_so}
+use Rattle.xr_threads.specs.ThreadViews.{running, running_so}
 use Rattle.xr_threads.specs.Standing.{EventsAre}
 use Rattle.xr_threads.specs.Transfers.{AwaitsNothing}
-use Rattle.xr_threads.specs.Turns.{EndOf, ItemsFrom, Rest, is_watching}
-use Rattle.xr_threads.proofs.RelyGuarantee.Stands.{stands_unwatched}
+use Rattle.xr_threads.specs.Turns.{EndOf, ItemsFrom, is_watching}
 
 -- the code of no item waits for an event
 pub code_unwatched : (places : Plan) (image : Code) (sides : Sides) (End : (pc j : ℕ) → Type 0) (items : List Item) (exits : List Exit)
@@ -63,6 +62,3 @@ events_on mode items bit on is = subst (λ m. EventsAre m items bit) (sym on) is
 module _ (g : Setting) (r : Runner) where
   pub items_unwatched : (items : List Item) (exits : List Exit) (pc j : ℕ) → ItemsFrom g r items exits pc j → is_watching items ≡ false
   items_unwatched items exits pc j h = code_unwatched (plan g r) (code g r) r.sides (EndOf g r) items exits pc j h
-
-  pub rest_unwatched : (items : List Item) (j : ℕ) (z : ThreadView) → Rest g r items j z → is_watching items ≡ false
-  rest_unwatched items j z h = stands_unwatched g r items j h.pc h.regs z.core h.stands

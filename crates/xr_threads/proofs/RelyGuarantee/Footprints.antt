@@ -408,7 +408,7 @@ module _ (g : Setting) (r : Runner) (items : List Item) (less : IsWithin (footpr
   -- what stands behind a transfer is the same code
   behind_shrinks : (these : List Item) (j index : ℕ) (regs : Regs) → IsBehind g r these j index regs → IsBehind g (shrunk r items) these j index regs
   behind_shrinks these j index regs
-      h = (h.0, λ core. stands_on g r (footprint_of items) r.transfer these j index regs core (h.1 core))
+      h = (h.0, h.1, λ core. stands_on g r (footprint_of items) r.transfer these j index regs core (h.2 core))
 
   pub transfer_shrinks : (transfer : Transfer) (j : ℕ) (z : ThreadView) → InTransfer g r transfer items j z →
       InTransfer g (shrunk r items) transfer items j z

@@ -46,7 +46,7 @@ module _ (g : Setting) (r : Runner) (transfer : Option Transfer) where
 
   -- what stands behind the transfer
   pub behind_as : (items : List Item) (j index : ℕ) (regs : Regs) → IsBehind g r items j index regs → IsBehind g s items j index regs
-  behind_as items j index regs h = (h.0, λ core. stands_on g r r.footprint transfer items j index regs core (h.1 core))
+  behind_as items j index regs h = (h.0, h.1, λ core. stands_on g r r.footprint transfer items j index regs core (h.2 core))
 
   pub steps_as : (channel : ℕ) (side : Side) (pos : Pos) (acts : List Act) (items : List Item) (j pc : ℕ) (regs : Regs) → TakesSteps g r channel side pos acts (IsBehind g r items j) pc regs → TakesSteps g s channel side pos acts (IsBehind g s items j) pc regs
   steps_as channel side pos acts items j pc regs h = acts_map (home g r) r.thread (end_place g r channel side) (running r.tie pc regs) pos acts (IsBehind g r items j) (IsBehind g s items j) (behind_as items j) pc regs h

@@ -1,6 +1,5 @@
 -- Where a thread stands between two own steps: at code, whatever the core is, and with another footprint or transfer.
-use Rattle.std.proofs.Common.{◌≡◌, ℕ, [], ◌∷◌, List, Option, ap, refl, slice_get, ◌∙◌}
-use Rattle.std.specs.Prelude.{false}
+use Rattle.std.proofs.Common.{◌≡◌, ℕ, [], ◌∷◌, List, Option, ap, slice_get, ◌∙◌}
 use Rattle.xs_instr.specs.declared.state.CoreState.{CoreState}
 use Rattle.xs_instr.specs.declared.state.Regs.{Regs}
 use Rattle.xc_kernel.specs.declared.statement.KRes.TheVariants.{Port, Timer, Chan}
@@ -11,7 +10,7 @@ use Rattle.xl_plan.specs.Layout.{port_number}
 use Rattle.xr_threads.specs.Fits.{ItemsFit}
 use Rattle.xr_threads.specs.Runners.{Footprint, IsPort, Setting, Runner, port_place}
 use Rattle.xr_threads.specs.Transfers.{Transfer}
-use Rattle.xr_threads.specs.Turns.{ItemsFrom, SameStamps, StandsAt, is_watching}
+use Rattle.xr_threads.specs.Turns.{ItemsFrom, SameStamps, StandsAt}
 
 -- The ports of the first items' stamps are the same where all ports are, and over two steps.
 
@@ -87,10 +86,11 @@ module _ (g : Setting) (r : Runner) where
   stands_kept [] j pc regs a b same h = h
   stands_kept (does s ∷ rest) j pc regs a b same h = h
   stands_kept (says i ∷ rest) j pc regs a b same h = h
-  stands_kept (stores place v ∷ rest) j pc regs a b same (stored, word, lines, next) = (
+  stands_kept (stores place v ∷ rest) j pc regs a b same (stored, word, lines, unwatched, next) = (
     stored,
     word,
     lines,
+    unwatched,
     λ regs' core' bases still. next regs' core' bases
         (stamps_then g r.core rest a b core' same still),
   )
@@ -102,21 +102,6 @@ module _ (g : Setting) (r : Runner) where
   stands_kept (fixed i v counter ∷ rest) j pc regs a b same h = h
   stands_kept (ends ∷ rest) j pc regs a b same h = h
 
-  -- no item waits for an event there
-  pub stands_unwatched : (items : List Item) (j pc : ℕ) (regs : Regs) (core : CoreState) → StandsAt g r items j pc regs core →
-      is_watching items ≡ false
-  stands_unwatched [] j pc regs core h = refl
-  stands_unwatched (does s ∷ rest) j pc regs core h = refl
-  stands_unwatched (says i ∷ rest) j pc regs core h = refl
-  stands_unwatched (stores place v ∷ rest) j pc regs core h = refl
-  stands_unwatched (stamps resource place v ∷ rest) j pc regs core h = refl
-  stands_unwatched (mark n ∷ rest) j pc regs core h = refl
-  stands_unwatched (awaits c pos ∷ rest) j pc regs core h = refl
-  stands_unwatched (transaction_end c is_master pos ∷ rest) j pc regs core h = refl
-  stands_unwatched (chooses choices otherwise ∷ rest) j pc regs core h = absurd h.1.stands
-  stands_unwatched (fixed i v counter ∷ rest) j pc regs core h = refl
-  stands_unwatched (ends ∷ rest) j pc regs core h = refl
-
   -- The same runner with another footprint, or in another transfer.
   module _ (footprint : Footprint) (transfer : Option Transfer) where
     abbrev pub other : Runner
@@ -127,10 +112,11 @@ module _ (g : Setting) (r : Runner) where
     stands_on [] j pc regs core h = h
     stands_on (does s ∷ rest) j pc regs core h = h
     stands_on (says i ∷ rest) j pc regs core h = h
-    stands_on (stores place v ∷ rest) j pc regs core (stored, word, lines, next) = (
+    stands_on (stores place v ∷ rest) j pc regs core (stored, word, lines, unwatched, next) = (
       stored,
       word,
       lines,
+      unwatched,
       λ regs' core' bases still. stands_on rest j stored regs' core' (next regs' core' bases still),
     )
     stands_on (stamps resource place v ∷ rest) j pc regs core h = h

@@ -29,14 +29,14 @@ use Rattle.xl_walk.specs.Pieces.{ClosesAt, Exit, Jumps, PiecesAt}
 use Rattle.xr_threads.specs.Roles.{ParentWaits, ParentsWait}
 use Rattle.xr_threads.specs.Runners.{Footprint, Setting, Runner, IsPort, code, footprint_of, places, plan, port_place, shrunk}
 use Rattle.xr_threads.specs.ThreadViews.{IsStable, Owns, ThreadView}
-use Rattle.xr_threads.specs.Turns.{EndOf, HasBases, HoldsNames, HoldsStore, IsAt, IsJoining, ItemsFrom, Joins, PortsStand, Rest, Runs, finished}
+use Rattle.xr_threads.specs.Turns.{EndOf, HasBases, HoldsNames, HoldsStore, IsAt, IsJoining, ItemsFrom, Joins, PortsStand, Rest, Runs, finished, is_watching}
 use Rattle.xr_threads.proofs.ItemCode.ParCloses.{closes_leads}
 use Rattle.xr_threads.proofs.ItemCode.Evaluations.{item_acts, runs_with, with_items}
 use Rattle.xr_threads.proofs.ItemCode.Items.{behind_jumps, pieces_before}
 use Rattle.xr_threads.proofs.ItemCode.Jumps.{jumps_way}
 use Rattle.xr_threads.proofs.RelyGuarantee.Stands.{items_stand}
 use Rattle.xr_threads.proofs.Relation.Waiting.{none_runs, parents_wait_on, waits_below, waits_known, waits_otherwise}
-use Rattle.xr_threads.proofs.RelyGuarantee.Events.{code_unwatched, here_at, here_from, rest_unwatched}
+use Rattle.xr_threads.proofs.RelyGuarantee.Events.{code_unwatched, here_at, here_from}
 
 -- What is left of a branch uses no more.
 
@@ -141,11 +141,12 @@ module _ (g : Setting) (r : Runner) where
     pub acted : acts g.program g.stimulus z.world (go r.branch) ≡ Some (with_items z.world r.branch branch items)
     pub rest : Rest g (shrunk r items) items j (record z { world = with_items z.world r.branch branch items })
 
-  stays : (item : Item) (rest items : List Item) (j : ℕ) (z : ThreadView) → (h : Rest g r (item ∷ rest) j z) →
+  stays : (item : Item) (rest items : List Item) (j : ℕ) (z : ThreadView) → is_watching (item ∷ rest) ≡ false →
+      (h : Rest g r (item ∷ rest) j z) →
       r.footprint ≡ footprint_of (item ∷ rest) → ((th : Thing) → by_items th items ≡ true → by_items th (item ∷ rest) ≡ true) →
       acts g.program g.stimulus z.world (go r.branch) ≡ Some (with_items z.world r.branch h.has.branch items) →
       (exits : List Exit) → ItemsFrom g r items exits h.pc j → ItemsFit g (shrunk r items) items → StaysOn items j z
-  stays item rest items j z h footprint less acted exits at_code fits =
+  stays item rest items j z unwatched h footprint less acted exits at_code fits =
       let has = h.has in
       let y : ThreadView = record z { world = with_items z.world r.branch has.branch items } in
       record {
@@ -154,7 +155,7 @@ module _ (g : Setting) (r : Runner) where
         running = has.runs.running;
         acted = acted;
         rest = going_rest r.branch r.parents r.sides r.inside items j z y (record has.branch { items = items }) h.pc h.regs exits
-            (here_from (item ∷ rest) (rest_unwatched g r (item ∷ rest) j z h) h.here) refl h.bases refl at_code fits
+            (here_from (item ∷ rest) unwatched h.here) refl h.bases refl at_code fits
             (runs_with z.world r.branch has.branch (item ∷ rest) items has.runs) has.core
             (less_holds r.branch r.parents r.sides r.inside items z y
             (λ v u. ap (λ (f : Footprint). f.uses v) footprint ∙ less (variable v) u) refl refl has.holds)
@@ -183,7 +184,7 @@ module _ (g : Setting) (r : Runner) where
         sum = omega arith;
       } in
       let inside = pieces_before (plan g r) (code g r) r.sides (EndOf g r) ss (mark n ∷ rest) inner c.index next c.further c.stands.1 at_mark in
-      stays (does (kernel.block n ss)) rest (todo ss (mark n ∷ rest)) j z h footprint (λ th u. block_uses th n ss rest u)
+      stays (does (kernel.block n ss)) rest (todo ss (mark n ∷ rest)) j z refl h footprint (λ th u. block_uses th n ss rest u)
       (item_acts g.program g.stimulus r.branch z.world h.has.branch (does (kernel.block n ss)) rest h.has.runs)
       inner (on_behind (todo ss (mark n ∷ rest)) inner c.here h.pc c.index c.further j c.jumps inside c.sum) fits
 
@@ -192,7 +193,7 @@ module _ (g : Setting) (r : Runner) where
       r.footprint ≡ footprint_of (mark n ∷ rest) → ItemsFit g (shrunk r rest) rest → StaysOn rest j z
   mark_settles n rest j z h footprint fits =
       let c = h.stands.1 in
-      stays (mark n) rest rest j z h footprint (λ th u. u)
+      stays (mark n) rest rest j z refl h footprint (λ th u. u)
       (item_acts g.program g.stimulus r.branch z.world h.has.branch (mark n) rest h.has.runs)
       c.stands.outer (on_behind rest c.stands.outer c.here h.pc c.index c.further j c.jumps c.stands.others c.sum) fits
 
@@ -203,7 +204,7 @@ module _ (g : Setting) (r : Runner) where
       let c = h.stands.1 in
       let others : ItemsFrom g r rest h.stands.0 c.index c.further = subst (λ q. ItemsFrom g r rest h.stands.0 q c.further)
       (sym c.stands.1) c.stands.2 in
-      stays (does (kernel.par kernel.no_branch)) rest rest j z h footprint (λ th u. u)
+      stays (does (kernel.par kernel.no_branch)) rest rest j z refl h footprint (λ th u. u)
       (item_acts g.program g.stimulus r.branch z.world h.has.branch (does (kernel.par kernel.no_branch)) rest h.has.runs)
       h.stands.0 (on_behind rest h.stands.0 c.here h.pc c.index c.further j c.jumps others c.sum) fits
 
