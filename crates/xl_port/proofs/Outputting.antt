@@ -23,9 +23,7 @@ use Rattle.xl_expr.specs.declared.plan.ResAt.TheVariants.{Fixed, Held}
 use Rattle.xl_expr.specs.declared.plan.VarPlan.{VarPlan}
 use Rattle.xl_expr.specs.Identifiers.{IsIdentifier}
 use Rattle.xl_expr.specs.Measures.{nodes}
-use Rattle.xl_expr.specs.PartSteps.{KeptParts, PartsStep, WithinParts}
 use Rattle.xl_expr.specs.Plans.{resource_in}
-use Rattle.xl_expr.specs.ResourceParts.{port_alone}
 use Rattle.xl_expr.specs.Stores.{is_working}
 use Rattle.xl_expr.specs.Works.{Evaluates, Gives, IsLaid, Outcome, is_scratch, same_reg}
 use Rattle.xl_expr.proofs.Evaluates.{within_most}
@@ -34,6 +32,7 @@ use Rattle.xl_expr.proofs.Lists.{stand_front, stand_back, word_by_same}
 use Rattle.xl_expr.proofs.Ways.{at_pc}
 use Rattle.xl_expr.proofs.Wider.{leads_map, leads_more, then_leads}
 use Rattle.xl_port.specs.Outputs.{HoldsTime, OutputOutcome, Outputs, PortStands, ResourceIs, TimeEvaluates, TimeIsLaid, Transfers, ValueOutcome, time_nodes}
+use Rattle.xl_port.specs.PortSteps.{KeptPort, PortStep, WithinPort}
 use Rattle.xl_port.proofs.PortTurns.{beside_port}
 
 -- a register that no part changes
@@ -130,22 +129,22 @@ module _ (home : Home) (relied : ℕ → Bool) (s t p : ℕ) (port : Port) (thre
     abbrev pc_end : ℕ
     pc_end = pc + length ls + length ms
 
-    on_value : (value : Value) (b : CoreState) → Outcome home relied s t (at_pc thread pc regs) a.words R0 (pc + length ls) value b × (slice_get b.ports p ≡ Some port) → WithinParts home relied (IsApart s) (port_alone p) t (ValueOutcome home relied s t thread a0.words p port pos pc_end time value) 4 b
+    on_value : (value : Value) (b : CoreState) → Outcome home relied s t (at_pc thread pc regs) a.words R0 (pc + length ls) value b × (slice_get b.ports p ≡ Some port) → WithinPort home relied (IsApart s) t p (ValueOutcome home relied s t thread a0.words p port pos pc_end time value) 4 b
     on_value (error kind at_pos') b g =
-        leads_more (KeptParts relied (port_alone p) t) (PartsStep home (IsApart s) (port_alone p) t) (ValueOutcome home relied s t thread a0.words p port pos pc_end time (error kind at_pos')) 0 4 (omega arith) b (λ c q. g.0 c q.own)
+        leads_more (KeptPort relied t p) (PortStep home (IsApart s) t p) (ValueOutcome home relied s t thread a0.words p port pos pc_end time (error kind at_pos')) 0 4 (omega arith) b (λ c q. g.0 c q.own)
     on_value (word v) b g =
         let gives = g.0 in
         let pc2 = pc + length ls in
         let k2 = since_given R0 pc pc2 v regs a b working_r0 k gives g.1 in
-        leads_map (KeptParts relied (port_alone p) t) (PartsStep home (IsApart s) (port_alone p) t)
+        leads_map (KeptPort relied t p) (PortStep home (IsApart s) t p)
         (ValueOutcome home relied s t (at_pc thread pc2 gives.regs) b.words p port pos pc_end time (word gives.regs.r0))
         (ValueOutcome home relied s t thread a0.words p port pos pc_end time (word v))
         (said_before pos time v pc2 pc_end gives.regs b k2 gives.value) 4 b
         (tr.by home relied s t p port (at_pc thread pc2 gives.regs) time b (stand_back home.parts.code pc ls ms st) k2.runs k2.room timed (holds_still time pc pc2 v regs a b gives holds) (stands_since place pc2 gives.regs b stands k2))
 
-    pub value_leads : WithinParts home relied (IsApart s) (port_alone p) t (ValueOutcome home relied s t thread a0.words p port pos pc_end time (eval store x)) (8 * nodes x + 4) a
+    pub value_leads : WithinPort home relied (IsApart s) t p (ValueOutcome home relied s t thread a0.words p port pos pc_end time (eval store x)) (8 * nodes x + 4) a
     value_leads =
-        then_leads (KeptParts relied (port_alone p) t) (PartsStep home (IsApart s) (port_alone p) t)
+        then_leads (KeptPort relied t p) (PortStep home (IsApart s) t p)
         (λ b. Outcome home relied s t (at_pc thread pc regs) a.words R0 (pc + length ls) (eval store x) b × (slice_get b.ports p ≡ Some port))
         (ValueOutcome home relied s t thread a0.words p port pos pc_end time (eval store x)) (8 * nodes x) 4 a
         (beside_port home relied (IsApart s) t p (Some port) (Outcome home relied s t (at_pc thread pc regs) a.words R0 (pc + length ls) (eval store x)) (8 * nodes x) a k.there
@@ -169,12 +168,12 @@ module _ (plan : Plan) (o : kernel.Output) (home : Home) (relied : ℕ → Bool)
     }
 
     -- the value and the transfer behind the time's code
-    behind_time : (time : Option ℕ) (is_timed : Bool) → is_some time ≡ is_timed → (pc1 : ℕ) (regs : Regs) (b : CoreState) → Since home relied s t p port thread a pc1 regs b → HoldsTime time regs → Evaluates plan.vars o.value R0 pc1 ls → Transfers place is_timed o.pos (pc1 + length ls) ms → StandAt home.parts.code pc1 (ls ++ ms) → WithinParts home relied (IsApart s) (port_alone p) t (ValueOutcome home relied s t thread a.words p port o.pos (pc1 + length ls + length ms) time (eval store o.value)) (8 * nodes o.value + 4) b
+    behind_time : (time : Option ℕ) (is_timed : Bool) → is_some time ≡ is_timed → (pc1 : ℕ) (regs : Regs) (b : CoreState) → Since home relied s t p port thread a pc1 regs b → HoldsTime time regs → Evaluates plan.vars o.value R0 pc1 ls → Transfers place is_timed o.pos (pc1 + length ls) ms → StandAt home.parts.code pc1 (ls ++ ms) → WithinPort home relied (IsApart s) t p (ValueOutcome home relied s t thread a.words p port o.pos (pc1 + length ls + length ms) time (eval store o.value)) (8 * nodes o.value + 4) b
     behind_time time is_timed timed pc1 regs b k holds ev tr st =
         value_leads home relied s t p port thread a plan.vars place o.pos store o.value time is_timed timed pc1 ls ms ev tr st regs b k holds laid stands
 
     -- by the time
-    by_time : (time : Option kernel.Expression) (fs : List Line) → TimeEvaluates plan.vars time pc fs → TimeIsLaid plan.vars relied s thread.regs.dp a.words store time → Evaluates plan.vars o.value R0 (pc + length fs) ls → Transfers place (is_some time) o.pos (pc + length fs + length ls) ms → StandAt home.parts.code pc (fs ++ (ls ++ ms)) → WithinParts home relied (IsApart s) (port_alone p) t (OutputOutcome home relied s t thread a.words p port o.pos (pc + length (fs ++ (ls ++ ms))) (option_map (eval store) time) (eval store o.value)) (8 * (time_nodes time + nodes o.value) + 4) a
+    by_time : (time : Option kernel.Expression) (fs : List Line) → TimeEvaluates plan.vars time pc fs → TimeIsLaid plan.vars relied s thread.regs.dp a.words store time → Evaluates plan.vars o.value R0 (pc + length fs) ls → Transfers place (is_some time) o.pos (pc + length fs + length ls) ms → StandAt home.parts.code pc (fs ++ (ls ++ ms)) → WithinPort home relied (IsApart s) t p (OutputOutcome home relied s t thread a.words p port o.pos (pc + length (fs ++ (ls ++ ms))) (option_map (eval store) time) (eval store o.value)) (8 * (time_nodes time + nodes o.value) + 4) a
     by_time None fs none time_laid ev tr st =
         let at_start : pc + length fs ≡ pc = omega (arith, ap length none) in
         let e : pc + length ls + length ms ≡ pc + length (fs ++ (ls ++ ms)) = omega (arith, ap length none, length-append fs (ls ++ ms), length-append ls ms) in
@@ -183,27 +182,27 @@ module _ (plan : Plan) (o : kernel.Output) (home : Home) (relied : ℕ → Bool)
         let ev' = subst (λ q. Evaluates plan.vars o.value R0 q ls) at_start ev in
         let tr' = subst (λ q. Transfers place false o.pos (q + length ls) ms) at_start tr in
         let all = behind_time None false refl pc thread.regs a at_first tt ev' tr' st' in
-        subst (λ n. WithinParts home relied (IsApart s) (port_alone p) t (ValueOutcome home relied s t thread a.words p port o.pos (pc + length (fs ++ (ls ++ ms))) None (eval store o.value)) n a) few
-        (subst (λ q. WithinParts home relied (IsApart s) (port_alone p) t (ValueOutcome home relied s t thread a.words p port o.pos q None (eval store o.value)) (8 * nodes o.value + 4) a) e all)
+        subst (λ n. WithinPort home relied (IsApart s) t p (ValueOutcome home relied s t thread a.words p port o.pos (pc + length (fs ++ (ls ++ ms))) None (eval store o.value)) n a) few
+        (subst (λ q. WithinPort home relied (IsApart s) t p (ValueOutcome home relied s t thread a.words p port o.pos q None (eval store o.value)) (8 * nodes o.value + 4) a) e all)
     by_time (Some x) fs evaluates time_laid ev tr st =
         let pc1 = pc + length fs in
         let e : pc1 + length ls + length ms ≡ pc + length (fs ++ (ls ++ ms)) = omega (arith, length-append fs (ls ++ ms), length-append ls ms) in
         let few : 8 * nodes x + (8 * nodes o.value + 4) ≡ 8 * (nodes x + nodes o.value) + 4 = omega arith in
         let there = at_first in
         let all =
-        then_leads (KeptParts relied (port_alone p) t) (PartsStep home (IsApart s) (port_alone p) t)
+        then_leads (KeptPort relied t p) (PortStep home (IsApart s) t p)
         (λ b. Outcome home relied s t (at_pc thread pc thread.regs) a.words R10 pc1 (eval store x) b × (slice_get b.ports p ≡ Some port))
         (OutputOutcome home relied s t thread a.words p port o.pos (pc1 + length ls + length ms) (Some (eval store x)) (eval store o.value)) (8 * nodes x) (8 * nodes o.value + 4) a
         (beside_port home relied (IsApart s) t p (Some port) (Outcome home relied s t (at_pc thread pc thread.regs) a.words R10 pc1 (eval store x)) (8 * nodes x) a stands.there
         (within_most home relied (IsApart s) t (Outcome home relied s t (at_pc thread pc thread.regs) a.words R10 pc1 (eval store x)) (eval store x) (8 * nodes x) a
         (evaluates.by home relied s t (at_pc thread pc thread.regs) store a (stand_front home.parts.code pc fs (ls ++ ms) st) there.runs room time_laid)))
         (on_time (eval store x)) in
-        subst (λ n. WithinParts home relied (IsApart s) (port_alone p) t (OutputOutcome home relied s t thread a.words p port o.pos (pc + length (fs ++ (ls ++ ms))) (Some (eval store x)) (eval store o.value)) n a) few
-        (subst (λ q. WithinParts home relied (IsApart s) (port_alone p) t (OutputOutcome home relied s t thread a.words p port o.pos q (Some (eval store x)) (eval store o.value)) (8 * nodes x + (8 * nodes o.value + 4)) a) e all)
+        subst (λ n. WithinPort home relied (IsApart s) t p (OutputOutcome home relied s t thread a.words p port o.pos (pc + length (fs ++ (ls ++ ms))) (Some (eval store x)) (eval store o.value)) n a) few
+        (subst (λ q. WithinPort home relied (IsApart s) t p (OutputOutcome home relied s t thread a.words p port o.pos q (Some (eval store x)) (eval store o.value)) (8 * nodes x + (8 * nodes o.value + 4)) a) e all)
       where
-        on_time : (value : Value) (b : CoreState) → Outcome home relied s t (at_pc thread pc thread.regs) a.words R10 (pc + length fs) value b × (slice_get b.ports p ≡ Some port) → WithinParts home relied (IsApart s) (port_alone p) t (OutputOutcome home relied s t thread a.words p port o.pos (pc + length fs + length ls + length ms) (Some value) (eval store o.value)) (8 * nodes o.value + 4) b
+        on_time : (value : Value) (b : CoreState) → Outcome home relied s t (at_pc thread pc thread.regs) a.words R10 (pc + length fs) value b × (slice_get b.ports p ≡ Some port) → WithinPort home relied (IsApart s) t p (OutputOutcome home relied s t thread a.words p port o.pos (pc + length fs + length ls + length ms) (Some value) (eval store o.value)) (8 * nodes o.value + 4) b
         on_time (error kind at_pos') b g =
-            leads_more (KeptParts relied (port_alone p) t) (PartsStep home (IsApart s) (port_alone p) t) (OutputOutcome home relied s t thread a.words p port o.pos (pc + length fs + length ls + length ms) (Some (error kind at_pos')) (eval store o.value)) 0 (8 * nodes o.value + 4) (omega arith) b (λ c q. g.0 c q.own)
+            leads_more (KeptPort relied t p) (PortStep home (IsApart s) t p) (OutputOutcome home relied s t thread a.words p port o.pos (pc + length fs + length ls + length ms) (Some (error kind at_pos')) (eval store o.value)) 0 (8 * nodes o.value + 4) (omega arith) b (λ c q. g.0 c q.own)
         on_time (word v) b g =
             behind_time (Some v) true refl (pc + length fs) g.0.regs b (since_given home relied s t p port thread a R10 pc (pc + length fs) v thread.regs a b working_r10 at_first g.0 g.1) g.0.value ev tr (stand_back home.parts.code pc fs (ls ++ ms) st)
 

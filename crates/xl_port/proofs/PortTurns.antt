@@ -17,37 +17,32 @@ use Rattle.xs_instr.specs.Ports.{can_send, counter, drives, drives_by, drives_on
 use Rattle.xs_instr.specs.Resources.{APort, named, on_port, usable}
 use Rattle.xs_instr.specs.Rows.{cond_row, goes_with, out_row, put_ports, row}
 use Rattle.xs_instr.specs.Slot.{is_waiteu}
-use Rattle.xs_instr.specs.declared.state.Res.TheVariants.{Port as ResPort}
 use Rattle.xl_expr.proofs.Lists.{get_set_other, get_set_same}
-use Rattle.xl_expr.proofs.ResourceParts.{others_of_port, others_same, port_same}
 use Rattle.xl_expr.proofs.Ways.{at_pc, own, turn_row}
 use Rattle.xl_port.specs.Outputs.{set_for}
-use Rattle.xl_expr.specs.PartSteps.{KeptParts, PartsStep, WithinParts}
-use Rattle.xl_expr.specs.ResourceParts.{port_alone}
+use Rattle.xl_port.specs.PortSteps.{KeptPort, PortStep, WithinPort}
 
 -- a step that changes no port is one that may change a port
-pub own_is_port_step : (home : Home) (leaves : ℕ → Type 0) (t p : ℕ) (a b : CoreState) → OwnStep home leaves t a b → PartsStep home leaves (port_alone p) t a b
+pub own_is_port_step : (home : Home) (leaves : ℕ → Type 0) (t p : ℕ) (a b : CoreState) → OwnStep home leaves t a b → PortStep home leaves t p a b
 own_is_port_step home leaves t p a b s = record {
   thread = s.thread;
   here = s.here;
   after = s.after;
   ports = a.ports;
-  timers = a.timers;
-  events = a.events;
   made = s.made;
   left = s.left;
   words = s.words;
-  resources = others_same (port_alone p) t a b (ap (λ (c : CoreState). c.ports) s.left) (ap (λ (c : CoreState). c.timers) s.left) (ap (λ (c : CoreState). c.events) s.left);
+  others = λ q ne. refl;
 }
 
 -- what leads somewhere without a port leads there beside a port, which is then as it was
-pub beside_port : (home : Home) (relied : ℕ → Bool) (leaves : ℕ → Type 0) (t p : ℕ) (found : Option Port) (Q : CoreState → Type 0) (n : ℕ) (a : CoreState) → slice_get a.ports p ≡ found → Within home relied leaves t Q n a → WithinParts home relied leaves (port_alone p) t (λ b. Q b × (slice_get b.ports p ≡ found)) n a
+pub beside_port : (home : Home) (relied : ℕ → Bool) (leaves : ℕ → Type 0) (t p : ℕ) (found : Option Port) (Q : CoreState → Type 0) (n : ℕ) (a : CoreState) → slice_get a.ports p ≡ found → Within home relied leaves t Q n a → WithinPort home relied leaves t p (λ b. Q b × (slice_get b.ports p ≡ found)) n a
 beside_port home relied leaves t p found Q zero a e h = (h, e)
 beside_port home relied leaves t p found Q (suc n) a e (inl h) = inl (h, e)
 beside_port home relied leaves t p found Q (suc n) a e (inr h) = inr (λ b k.
     let x = h b k.own in
     let same : slice_get x.0.ports p ≡ slice_get b.ports p = ap (λ (c : CoreState). slice_get c.ports p) x.1.left in
-    (x.0, own_is_port_step home leaves t p b x.0 x.1, beside_port home relied leaves t p found Q n x.0 (same ∙ (port_same a b p (k.resources.parts (ResPort p) refl) ∙ e)) x.2))
+    (x.0, own_is_port_step home leaves t p b x.0 x.1, beside_port home relied leaves t p found Q n x.0 (same ∙ (k.port ∙ e)) x.2))
 
 module _ (home : Home) (relied : ℕ → Bool) (s t p : ℕ) (thread : Thread) (runs : thread.mode ≡ Running) (quiet : thread.event_bit ≡ false) (old : List ℕ) where
   -- the thread stands at an index with these registers, port p is so, and the words that it relies on are those of a list
@@ -56,15 +51,15 @@ module _ (home : Home) (relied : ℕ → Bool) (s t p : ℕ) (thread : Thread) (
     pub port_is : slice_get b.ports p ≡ Some port
     pub words : (w : ℕ) → relied w ≡ true → slice_get b.words w ≡ slice_get old w
 
-  pub stands_kept : (pc : ℕ) (regs : Regs) (port : Port) (b c : CoreState) → Stands pc regs port b → KeptParts relied (port_alone p) t b c → Stands pc regs port c
+  pub stands_kept : (pc : ℕ) (regs : Regs) (port : Port) (b c : CoreState) → Stands pc regs port b → KeptPort relied t p b c → Stands pc regs port c
   stands_kept pc regs port b c h k = record {
     here = k.own.thread ∙ h.here;
-    port_is = port_same b c p (k.resources.parts (ResPort p) refl) ∙ h.port_is;
+    port_is = k.port ∙ h.port_is;
     words = λ w r. k.own.words w r ∙ h.words w r;
   }
 
   -- one step that sets the port
-  pub port_leads : (pc : ℕ) (regs : Regs) (port port' : Port) (i : Instr) (Q : CoreState → Type 0) (n : ℕ) → slice_get home.parts.code.instrs pc ≡ Some i → is_waiteu (Some i) ≡ false → ((c : CoreState) → slice_get c.ports p ≡ Some port → row home c t (at_pc thread pc regs) i ≡ makes (goes_with put_ports c t (at_pc thread pc regs) (slice_set c.ports p port'))) → ((b : CoreState) → Stands (pc + 1) regs port' b → WithinParts home relied (IsApart s) (port_alone p) t Q n b) → (a : CoreState) → Stands pc regs port a → WithinParts home relied (IsApart s) (port_alone p) t Q (suc n) a
+  pub port_leads : (pc : ℕ) (regs : Regs) (port port' : Port) (i : Instr) (Q : CoreState → Type 0) (n : ℕ) → slice_get home.parts.code.instrs pc ≡ Some i → is_waiteu (Some i) ≡ false → ((c : CoreState) → slice_get c.ports p ≡ Some port → row home c t (at_pc thread pc regs) i ≡ makes (goes_with put_ports c t (at_pc thread pc regs) (slice_set c.ports p port'))) → ((b : CoreState) → Stands (pc + 1) regs port' b → WithinPort home relied (IsApart s) t p Q n b) → (a : CoreState) → Stands pc regs port a → WithinPort home relied (IsApart s) t p Q (suc n) a
   port_leads pc regs port port' i Q n stands no_event turn next a h = inr (λ b k.
       let sb = stands_kept pc regs port a b h k in
       let th = at_pc thread pc regs in
@@ -75,12 +70,10 @@ module _ (home : Home) (relied : ℕ → Bool) (s t p : ℕ) (thread : Thread) (
           here = sb.here;
           after = own (pc + 1) regs b.words;
           ports = slice_set b.ports p port';
-          timers = b.timers;
-          events = b.events;
           made = turn_row home.parts.code relied (IsApart s) home t thread runs quiet refl b pc regs i sb.here stands no_event ∙ turn b sb.port_is;
           left = refl;
           words = λ w l. refl;
-          resources = others_of_port t p b d (λ q ne. get_set_other b.ports p q port' ne) refl refl;
+          others = λ q ne. get_set_other b.ports p q port' ne;
         },
         next d (record {
           here = get_set_same b.threads t th (at_pc thread (pc + 1) regs) sb.here;

@@ -22,8 +22,6 @@ use Rattle.xs_instr.specs.Rows.{goes_with, put_ports}
 use Rattle.xc_kernel.specs.Values.{word}
 use Rattle.xl_expr.specs.declared.plan.ResAt.{ResAt}
 use Rattle.xl_expr.specs.Identifiers.{Identifies, IsIdentifier, Named}
-use Rattle.xl_expr.specs.PartSteps.{KeptParts, PartsStep, WithinParts}
-use Rattle.xl_expr.specs.ResourceParts.{port_alone}
 use Rattle.xl_expr.specs.Stores.{is_working}
 use Rattle.xl_expr.specs.Targets.{AreAimed}
 use Rattle.xl_expr.proofs.GoodCode.{plain_aimed}
@@ -31,6 +29,7 @@ use Rattle.xl_expr.proofs.Lists.{stand_front, stand_back, room_kept}
 use Rattle.xl_expr.proofs.Ways.{at_pc, turn_row}
 use Rattle.xl_expr.proofs.Wider.{leads_more, then_leads}
 use Rattle.xl_port.specs.Outputs.{HoldsTime, Transfers, ValueOutcome, set_for, transfer_instrs, setting_instrs}
+use Rattle.xl_port.specs.PortSteps.{KeptPort, PortStep, WithinPort}
 use Rattle.xl_port.proofs.PortTurns.{Stands, beside_port, out_row_is, port_leads, setc_row, setpt_row, stands_kept}
 
 other_r11 : (regs : Regs) (v : ℕ) (r : Reg) → is_working r ≡ false → reg_get (reg_set regs R11 v) r ≡ reg_get regs r
@@ -69,9 +68,9 @@ module _ (home : Home) (relied : ℕ → Bool) (s t p : ℕ) (port : Port) (pos 
       })
 
   -- the code behind the identifier's
-  from_named : (time : Option ℕ) (pc1 : ℕ) → HoldsTime time thread.regs → StandAt home.parts.code pc1 (at_pos pos (transfer_instrs (is_some time))) → (b : CoreState) → StandsAt pc1 regs1 port b → WithinParts home relied (IsApart s) (port_alone p) t (PutsOutAt (pc1 + length (at_pos pos (transfer_instrs (is_some time)))) time) 2 b
+  from_named : (time : Option ℕ) (pc1 : ℕ) → HoldsTime time thread.regs → StandAt home.parts.code pc1 (at_pos pos (transfer_instrs (is_some time))) → (b : CoreState) → StandsAt pc1 regs1 port b → WithinPort home relied (IsApart s) t p (PutsOutAt (pc1 + length (at_pos pos (transfer_instrs (is_some time)))) time) 2 b
   from_named None pc1 holds st b h =
-      leads_more (KeptParts relied (port_alone p) t) (PartsStep home (IsApart s) (port_alone p) t) (PutsOutAt (pc1 + 2) None) 1 2 (omega arith) b
+      leads_more (KeptPort relied t p) (PortStep home (IsApart s) t p) (PutsOutAt (pc1 + 2) None) 1 2 (omega arith) b
       (port_leads home relied s t p thread at_work.runs at_work.no_events a.words pc1 regs1 port (set_for None port) (Setc R11 NoCond) (PutsOutAt (pc1 + 2) None) 0 st.0 refl
       (setc_row home relied s t p thread at_work.runs at_work.no_events a.words name names pc1 regs1 refl port)
       (at_out None (pc1 + 1) (pc1 + 2) (omega arith) st.2.0 st.2.1) b h)
@@ -82,20 +81,20 @@ module _ (home : Home) (relied : ℕ → Bool) (s t p : ℕ) (port : Port) (pos 
       (setpt_row home relied s t p thread at_work.runs at_work.no_events a.words name names (pc1 + 1) regs1 refl port time holds)
       (at_out (Some time) (pc1 + 1 + 1) (pc1 + 3) (omega arith) st.2.2.0 st.2.2.1)) b h
 
-  pub transfer_leads : (place : ResAt) (time : Option ℕ) (ls : List Line) → Identifies place pc ls → IsIdentifier relied s thread.regs.dp a.words place name → HoldsTime time thread.regs → slice_get a.ports p ≡ Some port → StandAt home.parts.code pc (ls ++ at_pos pos (transfer_instrs (is_some time))) → WithinParts home relied (IsApart s) (port_alone p) t (PutsOutAt (pc + length (ls ++ at_pos pos (transfer_instrs (is_some time)))) time) 4 a
+  pub transfer_leads : (place : ResAt) (time : Option ℕ) (ls : List Line) → Identifies place pc ls → IsIdentifier relied s thread.regs.dp a.words place name → HoldsTime time thread.regs → slice_get a.ports p ≡ Some port → StandAt home.parts.code pc (ls ++ at_pos pos (transfer_instrs (is_some time))) → WithinPort home relied (IsApart s) t p (PutsOutAt (pc + length (ls ++ at_pos pos (transfer_instrs (is_some time)))) time) 4 a
   transfer_leads place time ls identifies is holds there st =
       let tail = at_pos pos (transfer_instrs (is_some time)) in
       let pc1 = pc + length ls in
       let e : pc1 + length tail ≡ pc + length (ls ++ tail) = omega (arith, length-append ls tail) in
       let first = beside_port home relied (IsApart s) t p (Some port) (Named relied t thread a.words name pc1) 2 a there (identifies.by home relied s t name thread a (stand_front home.parts.code pc ls tail st) at_work is) in
-      subst (λ q. WithinParts home relied (IsApart s) (port_alone p) t (PutsOutAt q time) 4 a) e
-      (then_leads (KeptParts relied (port_alone p) t) (PartsStep home (IsApart s) (port_alone p) t) (λ b. Named relied t thread a.words name pc1 b × (slice_get b.ports p ≡ Some port)) (PutsOutAt (pc1 + length tail) time) 2 2 a first
+      subst (λ q. WithinPort home relied (IsApart s) t p (PutsOutAt q time) 4 a) e
+      (then_leads (KeptPort relied t p) (PortStep home (IsApart s) t p) (λ b. Named relied t thread a.words name pc1 b × (slice_get b.ports p ≡ Some port)) (PutsOutAt (pc1 + length tail) time) 2 2 a first
       (λ b g. from_named time pc1 holds (stand_back home.parts.code pc ls tail st) b (record { here = g.0.here; port_is = g.1; words = g.0.words })))
 
 pub transfers : (place : ResAt) (is_timed : Bool) (pos : Pos) (pc : ℕ) (ls : List Line) → Identifies place pc ls → Transfers (Some place) is_timed pos pc (ls ++ at_pos pos (transfer_instrs is_timed))
 transfers place is_timed pos pc ls identifies = record {
   by = λ home relied s t p port thread time a st at_work room timed holds stands.
-      subst (λ z. StandAt home.parts.code pc (ls ++ at_pos pos (transfer_instrs z)) → WithinParts home relied (IsApart s) (port_alone p) t (ValueOutcome home relied s t thread a.words p port pos (pc + length (ls ++ at_pos pos (transfer_instrs z))) time (word thread.regs.r0)) 4 a) timed
+      subst (λ z. StandAt home.parts.code pc (ls ++ at_pos pos (transfer_instrs z)) → WithinPort home relied (IsApart s) t p (ValueOutcome home relied s t thread a.words p port pos (pc + length (ls ++ at_pos pos (transfer_instrs z))) time (word thread.regs.r0)) 4 a) timed
       (transfer_leads home relied s t p port pos thread pc a at_work room stands.name stands.names stands.sends place time ls identifies stands.name_is holds stands.there) st;
 }
 

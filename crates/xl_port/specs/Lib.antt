@@ -1,1 +1,2 @@
+pub mod PortSteps
 pub mod Outputs

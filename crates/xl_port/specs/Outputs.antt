@@ -30,11 +30,10 @@ use Rattle.xl_expr.specs.declared.plan.ResAt.{ResAt}
 use Rattle.xl_expr.specs.declared.plan.VarPlan.{VarPlan}
 use Rattle.xl_expr.specs.Identifiers.{IsIdentifier}
 use Rattle.xl_expr.specs.Measures.{depth, nodes}
-use Rattle.xl_expr.specs.PartSteps.{KeptParts, WithinParts}
 use Rattle.xl_expr.specs.Plans.{resource_in}
-use Rattle.xl_expr.specs.ResourceParts.{port_alone}
 use Rattle.xl_expr.specs.Stores.{is_working}
 use Rattle.xl_expr.specs.Works.{Errs, Evaluates, IsLaid}
+use Rattle.xl_port.specs.PortSteps.{KeptPort, WithinPort}
 
 -- how many nodes time and value have, and how deep they are
 
@@ -130,13 +129,13 @@ module _
     (p : ℕ) (port : Port) (pos : Pos) (pc : ℕ) where
   abbrev pub ValueOutcome : (time : Option ℕ) → Value → CoreState → Type 0
   ValueOutcome time (word v) b =
-      (c : CoreState) → KeptParts relied (port_alone p) t b c → PutsOut home relied s t thread old p port pos pc time v c
-  ValueOutcome time (error kind at_pos') b = (c : CoreState) → KeptParts relied (port_alone p) t b c → Errs home t kind at_pos' c
+      (c : CoreState) → KeptPort relied t p b c → PutsOut home relied s t thread old p port pos pc time v c
+  ValueOutcome time (error kind at_pos') b = (c : CoreState) → KeptPort relied t p b c → Errs home t kind at_pos' c
 
   abbrev pub OutputOutcome : (time : Option Value) → Value → CoreState → Type 0
   OutputOutcome None value b = ValueOutcome None value b
   OutputOutcome (Some (word time)) value b = ValueOutcome (Some time) value b
-  OutputOutcome (Some (error kind at_pos')) value b = (c : CoreState) → KeptParts relied (port_alone p) t b c → Errs home t kind at_pos' c
+  OutputOutcome (Some (error kind at_pos')) value b = (c : CoreState) → KeptPort relied t p b c → Errs home t kind at_pos' c
 
 -- The lines put a value out on a port: wherever they stand from index pc on, in each state of the core in which the plan's layout
 -- holds, and whatever other threads do in between that leaves what this one relies on, the thread stands after at most 8 own steps
@@ -147,7 +146,7 @@ pub record Outputs (plan : Plan) (o : kernel.Output) (pc : ℕ) (lines : List Li
       TimeIsLaid plan.vars relied s thread.regs.dp a.words store o.time →
       IsLaid plan.vars relied s thread.regs.dp a.words store o.value →
       PortStands home relied s thread.regs.dp (resource_in plan.ports plan.timers o.resource) p port a →
-      WithinParts home relied (IsApart s) (port_alone p) t
+      WithinPort home relied (IsApart s) t p
       (OutputOutcome home relied s t thread a.words p port o.pos (pc + length lines)
       (option_map (eval store) o.time) (eval store o.value))
       (8 * output_nodes o + 4) a
@@ -170,6 +169,6 @@ pub record Transfers (place : Option ResAt) (is_timed : Bool) (pos : Pos) (pc : 
       StandAt home.parts.code pc lines → RunsAt t pc thread a → HasRoom relied s thread.regs a.words →
       is_some time ≡ is_timed → HoldsTime time thread.regs →
       PortStands home relied s thread.regs.dp place p port a →
-      WithinParts home relied (IsApart s) (port_alone p) t
+      WithinPort home relied (IsApart s) t p
       (ValueOutcome home relied s t thread a.words p port pos (pc + length lines) time (word thread.regs.r0))
       4 a

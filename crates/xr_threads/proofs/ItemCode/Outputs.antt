@@ -33,7 +33,6 @@ use Rattle.xc_meaning.specs.States.Items.{Item, does, When, now, at_time, stampi
 use Rattle.xc_meaning.specs.States.Branches.{Branch}
 use Rattle.xc_meaning.specs.States.Worlds.{World, go, take, default, only_if, with_record}
 use Rattle.xl_expr.specs.Identifiers.{IsIdentifier}
-use Rattle.xl_expr.specs.PartSteps.{WithinParts}
 use Rattle.xl_expr.specs.Plans.{resource_in}
 use Rattle.xl_expr.specs.ResourceParts.{port_alone}
 use Rattle.xl_expr.specs.Works as works
@@ -42,13 +41,14 @@ use Rattle.xl_expr.proofs.Lists.{get_set_same, get_set_other}
 use Rattle.xl_expr.proofs.ResourceParts.{others_fewer, others_of_port}
 use Rattle.xl_plan.specs.Layout.{port_name}
 use Rattle.xl_port.specs.Outputs.{OutputOutcome, PortStands, PutsOut, ResourceIs, TimeIsLaid, ValueOutcome, gone_out, is_due, out_record, output_nodes, set_for, time_nodes}
+use Rattle.xl_port.specs.PortSteps.{WithinPort}
 use Rattle.xl_walk.specs.Pieces.{Exit, OutputAt}
 use Rattle.xr_threads.specs.Fits.{IsOutPort, ItemsFit, OutputFits, PutsOutAt, UsesSome}
 use Rattle.xr_threads.specs.Runners.{IsMine, Setting, Runner, IsLaidOut, code, home, plan, port_place, relied}
 use Rattle.xr_threads.specs.ThreadViews.{ThreadView, Rely, running}
 use Rattle.xr_threads.specs.Turns as turn
 use Rattle.xr_threads.specs.Turns.{CannotAct, Errs, Goes, Has, HasBases, IsAt, IsOnSide, ItemsFrom, PortIs, PortsStand, Runs, StatementLeads, Turn, Turns, cost, own_go}
-use Rattle.xr_threads.proofs.RelyGuarantee.Arrival.{Since, alone_mine, apart_from, apart_of_changes, arrives_with, at_runs, port_kept, ports_since, since_kept}
+use Rattle.xr_threads.proofs.RelyGuarantee.Arrival.{Since, alone_mine, apart_from, apart_of_changes, arrives_with, at_runs, port_kept, port_within, ports_since, since_kept}
 use Rattle.xr_threads.proofs.Image.Bases.{bases_worked}
 use Rattle.xr_threads.proofs.ItemCode.Evaluations.{err_acts, eval_still, item_acts, kinds_agree, nodes_are, runs_with, with_items}
 use Rattle.xr_threads.proofs.Image.Identifiers.{PortIsNamed, port_named}
@@ -402,13 +402,14 @@ module _ (g : Setting) (r : Runner) (laid : IsLaidOut g r) (o : kernel.Output) (
         its_name = port_named g r laid z p out.listed out.is
 
     -- where its code leads, the runner comes
-    comes : (n : ℕ) → WithinParts (home g r) (relied g r) (IsApart r.stack) (port_alone spot) r.thread
+    comes : (n : ℕ) → WithinPort (home g r) (relied g r) (IsApart r.stack) r.thread spot
         (AtEnd (option_map (eval store) o.time) (eval store o.value)) n z.core → turn.Leads g r n j z
     comes n way =
         leads_as g r (λ y. AtEnd (option_map (eval store) o.time) (eval store o.value) y.core × Meanwhile y) (Turns g r j) n z
         (λ y h. turns (option_map (eval store) o.time) (eval store o.value) refl refl y h.0 h.1)
         (arrives_with g r (IsApart r.stack) (apart_of_changes g r) (port_alone (port_place g r p)) (alone_mine g r p out.listed out.is)
-        (AtEnd (option_map (eval store) o.time) (eval store o.value)) n z (at_runs g r z pc regs here) way)
+        (AtEnd (option_map (eval store) o.time) (eval store o.value)) n z (at_runs g r z pc regs here)
+        (port_within (home g r) (relied g r) (IsApart r.stack) r.thread spot (AtEnd (option_map (eval store) o.time) (eval store o.value)) n z.core way))
 
 -- From the code of an output the thread comes to the instruction that puts the word out, or to the first step of the protocol.
 module _ (g : Setting) (r : Runner) where
@@ -427,11 +428,11 @@ module _ (g : Setting) (r : Runner) where
           its : PortIs g r p out.listed z
           its = has.ports p out.listed out.is
 
-          way : WithinParts (home g r) (relied g r) (IsApart r.stack) (port_alone (port_place g r p)) r.thread
+          way : WithinPort (home g r) (relied g r) (IsApart r.stack) r.thread (port_place g r p)
               (OutputOutcome (home g r) (relied g r) r.stack r.thread (running r.tie pc regs) z.core.words (port_place g r p) its.port
               o.pos pc' (option_map (eval z.world.store) o.time) (eval z.world.store o.value)) most z.core
           way =
-              subst (λ q. WithinParts (home g r) (relied g r) (IsApart r.stack) (port_alone (port_place g r p)) r.thread
+              subst (λ q. WithinPort (home g r) (relied g r) (IsApart r.stack) r.thread (port_place g r p)
               (OutputOutcome (home g r) (relied g r) r.stack r.thread (running r.tie pc regs) z.core.words (port_place g r p) its.port
               o.pos q (option_map (eval z.world.store) o.time) (eval z.world.store o.value)) most z.core) (sym code.end)
               (code.so.by (home g r) (relied g r) r.stack r.thread (port_place g r p) its.port (running r.tie pc regs) z.world.store z.core code.stand (runs_at g r z pc regs here) (room_of g r laid z regs bases has.holds) (time_laid g r laid z regs o.time fits.time bases has.holds) (laid_at g r laid z regs o.value fits.value bases has.holds)
