@@ -9,4 +9,5 @@ pub mod Arrival
 pub mod SilentSteps
 pub mod Events
 pub mod Stands
+pub mod Variables
 pub mod Phases

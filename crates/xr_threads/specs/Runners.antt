@@ -11,12 +11,13 @@ use Rattle.xs_instr.specs.declared.state.Res.TheVariants.{End as ResEnd, Port as
 use Rattle.xs_instr.specs.declared.state.Res.{Res}
 use Rattle.xc_kernel.specs.declared.kernel.PortUse.{PortUse}
 use Rattle.xc_kernel.specs.Plain as kernel
+use Rattle.xc_kernel.specs.Eval.{Store}
 use Rattle.xl_expr.specs.declared.plan.Plan.{Plan}
 use Rattle.xl_expr.specs.declared.plan.ResAt.TheVariants.{Fixed}
 use Rattle.xl_expr.specs.declared.plan.VarAt.{VarAt}
 use Rattle.xl_expr.specs.declared.plan.VarAt.TheVariants.{Near, Far, Through}
 use Rattle.xl_expr.specs.declared.plan.VarPlan.{VarPlan}
-use Rattle.xl_expr.specs.Frames.{Frame, IsNear}
+use Rattle.xl_expr.specs.Frames.{Frame, Holds, IsNear}
 use Rattle.xl_expr.specs.Plans.{end_in, resource_at, var_in}
 use Rattle.xl_plan.specs.Layout.{core_of, end_name, end_number, is_used_on, port_name, port_number, timer_number}
 use Rattle.xc_kernel.specs.Things.{channel, timer, variable, change, port}
@@ -73,6 +74,10 @@ plan_in of_core (Some own) = own
 -- where the variables of a core stand, whatever code sees of them: the words are counted from word 0 on
 abbrev pub places : Setting → (core : ℕ) → List (Option VarPlan)
 places g core = (g.plans core).vars
+
+-- the words of these variables of a core are those of a store
+abbrev pub HoldsPlaces : Setting → (core : ℕ) → (uses : ℕ → Bool) → (words : List ℕ) → Store → Type 0
+HoldsPlaces g core uses words store = Holds (places g core) uses 0 words store
 
 -- A hardware thread that runs a branch: its code stands in a block, and its temporary words begin at word `stack`. Its steps count for a
 -- family. Other branches may wait for that one, the innermost first. It stands in sides of channels and inside transactions, and its

@@ -12,7 +12,6 @@ use Rattle.xc_meaning.specs.States.Branches.{Birth, Branch, Mode, has_ended, run
 use Rattle.xc_meaning.specs.States.Items.{Item}
 use Rattle.xc_meaning.specs.States.Worlds.{World}
 use Rattle.xc_meaning.specs.Uses.{by_items}
-use Rattle.xl_expr.specs.Frames.{Holds}
 use Rattle.xl_par.specs.Hands.{Hand, IsAmong}
 use Rattle.xc_disjoint.specs.Needs.{threads_on}
 use Rattle.xc_laws.specs.Lawful.{Lawful}
@@ -24,7 +23,7 @@ use Rattle.xr_match.specs.Sources.{Told}
 use Rattle.xr_match.specs.Systems.{SomeIs}
 use Rattle.xr_threads.specs.Parents.{Parent}
 use Rattle.xr_threads.specs.Roles.{AreRoles, AreUsedSo, HandFits, HasReserves, IsParent, ParentsWait, Role, Roles, got_by, own_branches, unused, used_by}
-use Rattle.xr_threads.specs.Runners.{Setting, Runner, IsPort, anyone, footprint_of, places}
+use Rattle.xr_threads.specs.Runners.{HoldsPlaces, Setting, Runner, IsPort, anyone, footprint_of}
 use Rattle.xr_threads.specs.Sizes.{sizes_in, sizes_of}
 use Rattle.xr_threads.specs.ThreadViews.{ThreadView}
 use Rattle.xr_threads.specs.Plain.{ArePlain}
@@ -142,7 +141,7 @@ pub record IsWanted (who : Roles) (c v : ℕ) : Type 0 where
   pub uses : by_items (variable v) parent.items ≡ true
 
 pub record AreLoose (g : Setting) (who : Roles) (c : ℕ) (a : CoreState) (x : World) : Type 0 where
-  pub variables : (v : ℕ) → NobodyChanges who c v → IsWanted who c v → Holds (places g c) (only v) 0 a.words x.store
+  pub variables : (v : ℕ) → NobodyChanges who c v → IsWanted who c v → HoldsPlaces g c (only v) a.words x.store
   pub ports : (p : ℕ) (listed : PortUse) → IsPort g (anyone c) p listed → NobodyHas who c p →
       PortIs g (anyone c) p listed (record { core = a; world = x; hand = None })
 

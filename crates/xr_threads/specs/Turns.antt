@@ -35,7 +35,6 @@ use Rattle.xc_meaning.specs.States.Worlds.{World, Action, go, take, default}
 use Rattle.xc_meaning.specs.Runs.{acts}
 use Rattle.xc_meaning.specs.Uses.{by_item}
 use Rattle.xl_chan.specs.Protocols.{Act, ActsAll, input_acts, output_acts}
-use Rattle.xl_expr.specs.Frames.{Holds}
 use Rattle.xl_expr.specs.Stores.{Stores}
 use Rattle.xl_sides.specs.Ends.{Sides, codes_in}
 use Rattle.xl_par.specs.Hands.{Hand, IsAmong, empty_hand}
@@ -45,7 +44,7 @@ use Rattle.xr_threads.specs.Items.{EndAt, ItemsAt}
 use Rattle.xr_threads.specs.Parents.{Parent, syncs_of}
 use Rattle.xl_walk.specs.Pieces.{Exit, LinesAt, PieceAt}
 use Rattle.xr_threads.specs.Fits.{Fits, ItemsFit, greatest}
-use Rattle.xr_threads.specs.Runners.{Block, Setting, Runner, IsLaidOut, IsPort, code, end_place, home, places, plan, port_place}
+use Rattle.xr_threads.specs.Runners.{HoldsPlaces, Block, Setting, Runner, IsLaidOut, IsPort, code, end_place, home, plan, port_place}
 use Rattle.xr_threads.specs.Transfers.{Transfer, AwaitsNothing, GoesWith, acts_left, items_behind}
 use Rattle.xr_threads.specs.ThreadViews.{ThreadView, Rely, Guarantee, LeadsIn, after, giving_back, running, running_so}
 
@@ -201,7 +200,7 @@ module _ (g : Setting) (r : Runner) where
 
   -- the words of the variables that the branch may use are those of the store, and the temporary words are there
   pub record HoldsStore (z : ThreadView) : Type 0 where
-    pub holds : Holds (places g r.core) r.footprint.uses 0 z.core.words z.world.store
+    pub holds : HoldsPlaces g r.core r.footprint.uses z.core.words z.world.store
     pub room : r.stack + temporary ≤ length z.core.words
 
   -- a port stands at its place as it is declared

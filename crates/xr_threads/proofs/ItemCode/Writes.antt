@@ -1,7 +1,7 @@
 -- A word that is written to a place: the thread comes to the instruction that writes it, and the branch stores it; or both err by the place's index.
-use Rattle.std.proofs.Common.{◌≡◌, ℕ, ◌+◌, ◌*◌, ◌/◌, ◌<◌, ◌≤◌, Bool, eq-eqb, true, false, List, [], ◌∷◌, length, Some, None, refl, sym, ap, ◌∙◌, subst, arith}
-use Rattle.std.specs.Prelude.{nat_eq, slice_set, nat_lt}
-use Rattle.std.proofs.lemmas.Bool.{ltb-true, or_left}
+use Rattle.std.proofs.Common.{◌≡◌, ℕ, ◌+◌, ◌/◌, ◌≤◌, eq-eqb, true, false, List, [], ◌∷◌, length, Some, None, refl, sym, ap, ◌∙◌, subst, arith}
+use Rattle.std.specs.Prelude.{nat_eq, slice_set}
+use Rattle.std.proofs.lemmas.Bool.{or_left}
 use Rattle.std.proofs.lemmas.List.{length-set, get_or-set_other}
 use Rattle.xw_words.specs.declared.pos.Pos.{Pos}
 use Rattle.xs_instr.specs.declared.state.Regs.{Regs}
@@ -9,7 +9,7 @@ use Rattle.xs_instr.specs.Memory.{word_put}
 use Rattle.xs_instr.specs.OwnSteps.{IsApart, temporary}
 use Rattle.xs_instr.specs.declared.state.CoreState.{CoreState}
 use Rattle.xc_kernel.specs.Plain as kernel
-use Rattle.xc_kernel.specs.Values.{Value, word, error, ErrorKind, tested_by}
+use Rattle.xc_kernel.specs.Values.{Value, word, error, ErrorKind}
 use Rattle.xc_kernel.specs.Eval.{Store, eval, words_of}
 use Rattle.xc_kernel.specs.Things.{by_expression, by_target, change}
 use Rattle.xc_meaning.specs.Settings.Setting as meaning
@@ -20,21 +20,18 @@ use Rattle.xc_meaning.specs.States.Items.{Item}
 use Rattle.xc_meaning.specs.States.Worlds.{World, go}
 use Rattle.xc_meaning.specs.Runs.{acts, does_item, step_of}
 use Rattle.xc_meaning.specs.Uses.{by_item}
-use Rattle.xl_expr.specs.declared.plan.VarAt.{VarAt}
-use Rattle.xl_expr.specs.Frames.{HasPlace, Holds, changed, variable_of}
-use Rattle.xl_expr.specs.Stores.{ElementAt, IsAddress, OfElement, OfWord, StoreOutcome, WordAt, Writes, index_in, tested_value}
-use Rattle.xl_expr.proofs.Framed.{store_holds}
-use Rattle.xl_expr.proofs.Lasting.{address_lasts}
+use Rattle.xl_expr.specs.Frames.{changed, variable_of}
+use Rattle.xl_expr.specs.Stores.{StoreOutcome, Writes, index_in, tested_value}
 use Rattle.xl_expr.proofs.Lists.{get_set_other}
 use Rattle.xr_threads.specs.Fits.{ItemsFit, UsesAt}
-use Rattle.xr_threads.specs.Runners.{Setting, Runner, IsLaidOut, MayChange, of_variable, home, places, plan, plan_in, relied}
+use Rattle.xr_threads.specs.Runners.{HoldsPlaces, Setting, Runner, IsLaidOut, MayChange, home, plan, relied}
 use Rattle.xr_threads.specs.ThreadViews.{ThreadView, Rely, running}
 use Rattle.xr_threads.specs.Turns as turn
 use Rattle.xr_threads.specs.Turns.{HasBases, Has, Goes, SameStamps, StandsAt, Turn, is_watching}
 use Rattle.xr_threads.proofs.RelyGuarantee.Arrival.{Since, any_part, core_kept}
 use Rattle.xr_threads.proofs.Image.Bases.{bases_worked}
 use Rattle.xr_threads.proofs.ItemCode.Evaluations.{index_still, item_acts, value_errs, with_items}
-use Rattle.xr_threads.proofs.RelyGuarantee.Layouts.{place_seen, seen}
+use Rattle.xr_threads.proofs.RelyGuarantee.Variables.{IsPlaced, address_seen, address_since, place_changes, place_holds}
 use Rattle.xr_threads.proofs.OwnSteps.Turns.{MakesOwn, own_goes}
 
 -- a word is stored at the index that a place has
@@ -67,37 +64,6 @@ stored_errs s (kernel.element u x p) v kind pos is = by (eval s.world.store x) r
         ap (λ o. with_value s o (λ l. with_value s (tested_value len p (word l)) (stored_in s u v))) e
         ∙ ap (λ o. with_value s o (stored_in s u v)) (ap (tested_value len p) (sym e) ∙ is)
 
--- an index that a place has is below the length of its variable
-index_within : (len i : ℕ) (pos : Pos) (v : Value) → tested_value len pos v ≡ word i → i < len
-index_within len i pos (word k) h = by (nat_lt k len) refl h
-  where
-    by : (b : Bool) → nat_lt k len ≡ b → tested_by k pos b ≡ word i → i < len
-    by true e f = let same : k ≡ i = cc in let lt = ltb-true k len e in omega arith
-    by false e f = absurd (cc)
-index_within len i pos (error kind p) h = absurd (cc)
-
-module _ (g : Setting) (r : Runner) (laid : IsLaidOut g r) where
-  -- the word at a place's address is one that the runner may change
-  place_changes : (words : List ℕ) (store : Store) → Holds (places g r.core) r.footprint.uses 0 words store →
-      (p : kernel.Place) (i address : ℕ) → HasPlace (places g r.core) r.footprint.uses p →
-      r.footprint.changes (variable_of p) ≡ true → index_in store p ≡ word i →
-      IsAddress (places g r.core) (relied g r) r.stack (4 * 0) words p i address → MayChange g r (address / 4)
-  place_changes words store holds (kernel.word v) i address (found, known, some, uses) changes is at_address =
-      let near = laid.frame.near v found known in
-      let placed = subst (λ (q : VarAt). WordAt (places g r.core) (relied g r) r.stack (4 * 0) words q address) near.1.place
-      (subst (λ o. OfWord (places g r.core) (relied g r) r.stack (4 * 0) words o address) known at_address) in
-      let low = laid.frame.low v near.0 0 found near.1 some in
-      of_variable v near.0 0 found near.1 changes some (omega arith)
-  place_changes words store holds (kernel.element v x pos) i address (has_x, (found, known, uses)) changes is at_address =
-      let near = laid.frame.near v found known in
-      let placed = subst (λ (q : VarAt). ElementAt (places g r.core) (relied g r) r.stack (4 * 0) words q i address) near.1.place
-      (subst (λ o. OfElement (places g r.core) (relied g r) r.stack (4 * 0) words o i address) known at_address) in
-      let len = length (words_of store v) in
-      let size = holds.lengths v near.0 found near.1 uses in
-      let lt : i < found.words = let w = index_within len i pos (eval store x) is in omega arith in
-      let low = laid.frame.low v near.0 i found near.1 lt in
-      of_variable v near.0 i found near.1 changes lt (omega arith)
-
 -- the target of a store is changed
 pub target_changed : (place : kernel.Place) → by_target (change (variable_of place)) place ≡ true
 target_changed (kernel.word v) = eq-eqb v v refl
@@ -118,7 +84,7 @@ module _ (g : Setting) (r : Runner) (laid : IsLaidOut g r) (item : Item) (place 
   -- at the instruction that writes the word
   write_goes : (z : ThreadView) (regs : Regs) (v i address : ℕ) → HasBases g r regs → q.hand ≡ None → (has : Has g r (item ∷ rest) q) →
       Stores q.world has.branch v → index_in q.world.store place ≡ word i →
-      IsAddress (places g r.core) (relied g r) r.stack (4 * 0) q.core.words place i address →
+      IsPlaced g r laid q.core.words place i address →
       Writes (home g r) (relied g r) r.stack r.thread (running r.tie pc regs) z.core.words address v pc' q.core → Goes g r j q
   write_goes z regs v i address bases no_hand has is is_index at_address w =
       own_goes g r j q pc' w.regs words made bases' no_hand item rest rest store has acted same holds room unwatched j
@@ -131,8 +97,7 @@ module _ (g : Setting) (r : Runner) (laid : IsLaidOut g r) (item : Item) (place 
       store = changed q.world.store (variable_of place) i v
 
       mine : MayChange g r (address / 4)
-      mine = place_changes g r laid q.core.words q.world.store has.holds.holds place i address (place_seen g r laid place uses_place)
-          changes is_index at_address
+      mine = place_changes g r laid q.core.words q.world.store has.holds.holds place i address uses_place changes is_index at_address
 
       made : MakesOwn g r q pc' w.regs words
       made = record {
@@ -156,9 +121,8 @@ module _ (g : Setting) (r : Runner) (laid : IsLaidOut g r) (item : Item) (place 
       same u c = get_or-set_other q.world.store (variable_of place) u (slice_set (words_of q.world.store (variable_of place)) i v) []
           (λ e. let f : true ≡ false = sym changed_first ∙ ap (λ v. by_item (change v) item) (sym e) ∙ c in absurd (cc))
 
-      holds : Holds (places g r.core) r.footprint.uses 0 words store
-      holds = store_holds (places g r.core) (relied g r) r.footprint.uses r.stack 0 laid.frame q.core.words q.world.store has.holds.holds
-          place i address v (place_seen g r laid place uses_place) is_index at_address
+      holds : HoldsPlaces g r.core r.footprint.uses words store
+      holds = place_holds g r laid q.core.words q.world.store has.holds.holds place i address v uses_place is_index at_address
 
       room : r.stack + temporary ≤ length words
       room = let e = length-set q.core.words (address / 4) v in let h = has.holds.room in omega arith
@@ -176,11 +140,8 @@ module _ (g : Setting) (r : Runner) (laid : IsLaidOut g r) (item : Item) (place 
       by : (i : Value) → index_in z.world.store place ≡ i → StoreOutcome (plan g r).vars (home g r) (relied g r) r.stack r.thread (running r.tie pc regs) z.core.words place v pc' i y.core → Turn g r j q
       by (word i) f (address, at_address, writes) =
           let w = writes q.core (core_kept g r kept) in
-          let at_base = subst (λ d. IsAddress (plan g r).vars (relied g r) r.stack d z.core.words place i address) bases.base at_address in
-          let there = seen g r laid (λ b. IsAddress (plan_in (g.plans r.core) b.plan).vars (relied g r) r.stack (4 * b.base) z.core.words
-          place i address) at_base in
-          let at_q = address_lasts (places g r.core) (relied g r) r.stack (4 * 0) z.core.words q.core.words z.world.store since.words
-          place i address there in
+          let there = address_seen g r laid z.core.words regs bases place i address at_address in
+          let at_q = address_since g r laid z q since place i address there in
           turn.goes_on (write_goes z regs v i address bases no_hand has is (index_is (word i) f) at_q w)
       by (error kind pos) f traps =
           let s = step_of g.program g.stimulus q.world r.branch has.branch rest in

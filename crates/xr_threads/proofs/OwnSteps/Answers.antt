@@ -15,8 +15,7 @@ use Rattle.xc_meaning.specs.States.Branches.{Branch, runs, has_ended}
 use Rattle.xc_meaning.specs.States.Worlds.{World}
 use Rattle.xl_expr.proofs.Lists.{get_set_same, get_set_other}
 use Rattle.xl_expr.proofs.ResourceParts.{others_same}
-use Rattle.xl_expr.specs.Frames.{Holds}
-use Rattle.xr_threads.specs.Runners.{Setting, Runner, IsPort, places, port_place}
+use Rattle.xr_threads.specs.Runners.{HoldsPlaces, Setting, Runner, IsPort, port_place}
 use Rattle.xr_threads.specs.ThreadViews.{Guarantee, ThreadView, running_so}
 use Rattle.xr_threads.specs.Standing.{counts, is_of_root, one_where}
 use Rattle.xr_threads.specs.Turns.{Errs, Frees, Goes, HoldsStore, IsFree, IsWaitingTied, PortsStand, Waits, failed, finished, is_watching}
@@ -56,8 +55,8 @@ module _ (g : Setting) (r : Runner) (c : ℕ) (a : CoreState) (x : World) where
   -- memory and ports that are as they were
   pub store_as : (z y : ThreadView) → y.core.words ≡ z.core.words → y.world.store ≡ z.world.store → HoldsStore g r z → HoldsStore g r y
   store_as z y words store h = record {
-    holds = subst (λ l. Holds (places g r.core) r.footprint.uses 0 l y.world.store) (sym words)
-        (subst (Holds (places g r.core) r.footprint.uses 0 z.core.words) (sym store) h.holds);
+    holds = subst (λ l. HoldsPlaces g r.core r.footprint.uses l y.world.store) (sym words)
+        (subst (HoldsPlaces g r.core r.footprint.uses z.core.words) (sym store) h.holds);
     room = subst (λ l. r.stack + temporary ≤ length l) (sym words) h.room;
   }
 

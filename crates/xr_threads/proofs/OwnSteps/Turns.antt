@@ -16,12 +16,11 @@ use Rattle.xc_meaning.specs.States.Items.{Item}
 use Rattle.xc_meaning.specs.States.Worlds.{World, go}
 use Rattle.xc_meaning.specs.Runs.{acts}
 use Rattle.xc_meaning.specs.Uses.{by_item}
-use Rattle.xl_expr.specs.Frames.{Holds}
 use Rattle.xl_expr.proofs.Lists.{get_set_same, get_set_other}
 use Rattle.xl_expr.proofs.ResourceParts.{others_same}
 use Rattle.xl_walk.specs.Pieces.{Exit}
 use Rattle.xr_threads.specs.Fits.{ItemsFit}
-use Rattle.xr_threads.specs.Runners.{Setting, Runner, MayChange, home, places}
+use Rattle.xr_threads.specs.Runners.{HoldsPlaces, Setting, Runner, MayChange, home}
 use Rattle.xr_threads.specs.ThreadViews.{ThreadView, running}
 use Rattle.xr_threads.specs.Turns.{HasBases, Has, IsAt, ItemsFrom, Goes, SameStamps, StandsAt, first_changes, is_watching, own_go}
 use Rattle.xr_threads.proofs.ItemCode.Evaluations.{runs_with, with_items}
@@ -52,7 +51,7 @@ module _ (g : Setting) (r : Runner) where
       (item : Item) (rest items : List Item) (store : Store) (has : Has g r (item ∷ rest) y) →
       acts g.program g.stimulus y.world (go r.branch) ≡ Some (record (with_items y.world r.branch has.branch items) { store = store }) →
       ((v : ℕ) → by_item (change v) item ≡ false → words_of store v ≡ words_of y.world.store v) →
-      Holds (places g r.core) r.footprint.uses 0 words store → r.stack + temporary ≤ length words → is_watching items ≡ false →
+      HoldsPlaces g r.core r.footprint.uses words store → r.stack + temporary ≤ length words → is_watching items ≡ false →
       (jumps : ℕ) → ((core : CoreState) → SameStamps g r.core items y.core core → StandsAt g r items jumps pc regs core) →
       ItemsFit g r items → jumps ≤ j + 1 → Goes g r j y
   own_goes j y pc regs words made bases no_hand item rest items store has acted same holds room unwatched jumps stands fits fewer =

@@ -22,7 +22,7 @@ use Rattle.xl_sides.specs.Ends.{Sides, codes_in}
 use Rattle.xr_match.specs.Lives.{Life, Watched}
 use Rattle.xr_match.specs.Systems.{SomeIs}
 use Rattle.xr_threads.specs.Parents.{Parent, branches_of}
-use Rattle.xr_threads.specs.Runners.{Block, Footprint, Runner, code, footprint_of, outside, places, plan, plan_in}
+use Rattle.xr_threads.specs.Runners.{HoldsPlaces, Block, Footprint, Runner, code, footprint_of, outside, plan, plan_in}
 use Rattle.xr_threads.specs.Sizes.{Sizes}
 use Rattle.xr_threads.specs.ThreadViews.{Owns, giving_back, running, sync_in}
 use Rattle.xr_threads.proofs.Relation.Counts.{living_after}
@@ -33,7 +33,6 @@ use Rattle.xr_threads.proofs.Relation.Events.{answered, clocks_still, far_steps_
 use Rattle.xr_threads.proofs.Channels.Wiring.{TransfersAsBefore, wired_still}
 use Rattle.std.specs.Prelude.{option_map}
 use Rattle.xs_instr.specs.Machine.{Machine, and_then}
-use Rattle.xl_expr.specs.Frames.{Holds}
 use Rattle.xs_instr.specs.Pool.{all_started, is_tied, is_unused, started_by}
 use Rattle.xc_kernel.specs.Plain as kernel
 use Rattle.xc_kernel.specs.Things.{variable, by_branches}
@@ -521,7 +520,7 @@ module _ {moment : Moment none_rests} {hand : Option Hand} (thread_at : ThreadAt
   fits_of i placed there = branch_fits g r.core all b.rest (fits_everywhere g r (does (kernel.par all) ∷ b.rest) outermost_block b.fits) i
       placed.code (code_of all i placed.code (code_is i placed there))
 
-  holds_within : (f : Footprint) → IsWithin f r.footprint → Holds (places g r.core) f.uses 0 left.words world.store
+  holds_within : (f : Footprint) → IsWithin f r.footprint → HoldsPlaces g r.core f.uses left.words world.store
   holds_within f less =
       let h = b.has.holds.holds in
       record {

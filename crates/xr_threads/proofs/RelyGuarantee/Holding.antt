@@ -24,7 +24,7 @@ use Rattle.xl_par.specs.Hands.{Hand}
 use Rattle.xl_plan.specs.Layout.{core_of_port, port_number}
 use Rattle.xr_threads.specs.Parents.{Parent}
 use Rattle.xr_threads.specs.Roles.{IsParent, ParentsWait, ParentWaits, Roles, used_by}
-use Rattle.xr_threads.specs.Runners.{Footprint, IsMine, Setting, Runner, IsLaidOut, IsPort, MayChange, anyone, footprint_of, of_stack, of_variable, places, port_place}
+use Rattle.xr_threads.specs.Runners.{HoldsPlaces, Footprint, IsMine, Setting, Runner, IsLaidOut, IsPort, MayChange, anyone, footprint_of, of_stack, of_variable, places, port_place}
 use Rattle.xr_threads.specs.Standing.{AreLoose, IsWanted, NobodyChanges, NobodyHas, only}
 use Rattle.xr_threads.specs.Turns.{HoldsStore, PortIs, PortsStand}
 use Rattle.xr_threads.proofs.RelyGuarantee.Apartness.{not_true}
@@ -178,7 +178,7 @@ module _ (g : Setting) (who : Roles) (x : World) (lawful : Lawful g.program x)
 
       pub holds_behind : (hand' : Option Hand) → HoldsStore g s (record { core = a; world = x; hand = hand' })
       holds_behind hand' = record {
-        holds = subst (λ k. Holds (places g k) s.footprint.uses 0 a.words x.store) (sym on)
+        holds = subst (λ k. HoldsPlaces g k s.footprint.uses a.words x.store) (sym on)
             (holds_all (places g c) s.footprint.uses a.words x.store
             (λ v uses.
             let mine = subst (λ (f : Footprint). f.uses v ≡ true) has uses in
@@ -207,8 +207,8 @@ module _ (g : Setting) (who who' : Roles) (c : ℕ) (a b : CoreState) (x y : Wor
     (wants : (v : ℕ) → IsWanted who' c v → IsWanted who c v ⊎ (r.footprint.uses v ≡ true))
     (has : (q : ℕ) → NobodyHas who' c q → r.footprint.ports q ≡ false → NobodyHas who c q) where
   -- what it used it holds
-  used_holds : (v : ℕ) → r.footprint.uses v ≡ true → Holds (places g c) (only v) 0 b.words y.store
-  used_holds v uses = subst (λ k. Holds (places g k) (only v) 0 b.words y.store) on
+  used_holds : (v : ℕ) → r.footprint.uses v ≡ true → HoldsPlaces g c (only v) b.words y.store
+  used_holds v uses = subst (λ k. HoldsPlaces g k (only v) b.words y.store) on
       (holds_only (places g r.core) r.footprint.uses b.words y.store v uses holds.holds)
 
   -- a variable that it doesn't change has its words still
@@ -223,10 +223,10 @@ module _ (g : Setting) (who who' : Roles) (c : ℕ) (a b : CoreState) (x y : Wor
       (λ h. let z : ⊥ = omega (arith, h, lt', is, is') in z)
       (laid.frame.apart v n i found near lt)
 
-  variable_behind : (v : ℕ) → NobodyChanges who' c v → IsWanted who' c v → Holds (places g c) (only v) 0 b.words y.store
+  variable_behind : (v : ℕ) → NobodyChanges who' c v → IsWanted who' c v → HoldsPlaces g c (only v) b.words y.store
   variable_behind v nobody wanted = by (r.footprint.changes v) refl
     where
-      by : (changed : Bool) → r.footprint.changes v ≡ changed → Holds (places g c) (only v) 0 b.words y.store
+      by : (changed : Bool) → r.footprint.changes v ≡ changed → HoldsPlaces g c (only v) b.words y.store
       by true e = used_holds v (laid.changes v e)
       by false e =
           ⊎_elim

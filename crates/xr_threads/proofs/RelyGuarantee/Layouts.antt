@@ -12,13 +12,13 @@ use Rattle.xc_kernel.specs.Eval.{Store, words_of}
 use Rattle.xc_meaning.specs.States.Items.{Item}
 use Rattle.xc_meaning.specs.States.Branches.{Branch}
 use Rattle.xl_expr.specs.declared.plan.VarPlan.{VarPlan}
-use Rattle.xl_expr.specs.Frames.{HasPlace, HasVars, IsNear, Holds}
+use Rattle.xl_expr.specs.Frames.{HasPlace, HasVars, IsNear}
 use Rattle.xl_expr.specs.Plans.{var_in, joined}
 use Rattle.xl_expr.specs.Works.{IsLaid, PlaceIsLaid}
 use Rattle.xl_expr.proofs.Framed.{framed_laid, framed_place}
 use Rattle.xl_expr.proofs.Lists.{room_kept}
 use Rattle.xr_threads.specs.Fits.{Uses, UsesAt}
-use Rattle.xr_threads.specs.Runners.{Block, Setting, Runner, IsLaidOut, IsPort, is_among_words, is_word_among, is_word_at, is_word_of, outside, places, plan, plan_in, port_place, relied}
+use Rattle.xr_threads.specs.Runners.{HoldsPlaces, Block, Setting, Runner, IsLaidOut, IsPort, is_among_words, is_word_among, is_word_at, is_word_of, outside, places, plan, plan_in, port_place, relied}
 use Rattle.xr_threads.specs.ThreadViews.{ThreadView, IsStable, Rely, running}
 use Rattle.xr_threads.specs.Standing.{IsAtRest, IsOnItsWay, IsResuming, IsTransferring}
 use Rattle.xr_threads.specs.Transfers.{Transfer}
@@ -72,7 +72,7 @@ module _ (g : Setting) (r : Runner) where
       ((v n i : ℕ) (found : VarPlan) → IsNear (places g r.core) v n found → r.footprint.uses v ≡ true → i < found.words →
       slice_get words' (0 + n + i) ≡ slice_get words (0 + n + i)) →
       ((v : ℕ) → r.footprint.uses v ≡ true → words_of store' v ≡ words_of store v) →
-      Holds (places g r.core) r.footprint.uses 0 words store → Holds (places g r.core) r.footprint.uses 0 words' store'
+      HoldsPlaces g r.core r.footprint.uses words store → HoldsPlaces g r.core r.footprint.uses words' store'
   holds_last words words' store store' same same_store h = record {
     lengths = λ v n found near uses. h.lengths v n found near uses ∙ ap length (sym (same_store v uses));
     values = λ v n i x found near uses there.

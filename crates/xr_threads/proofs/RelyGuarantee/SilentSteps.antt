@@ -14,14 +14,14 @@ use Rattle.xc_meaning.specs.Counts.KernelCounts.{kernel_bound}
 use Rattle.xc_meaning.specs.States.Branches.{Branch, has_ended}
 use Rattle.xc_meaning.specs.States.Worlds.{World}
 use Rattle.xl_expr.specs.declared.plan.VarPlan.{VarPlan}
-use Rattle.xl_expr.specs.Frames.{Holds, IsNear}
+use Rattle.xl_expr.specs.Frames.{IsNear}
 use Rattle.xl_par.specs.Hands.{Hand}
 use Rattle.xl_plan.specs.Layout.{core_of_port, port_number}
 use Rattle.xr_match.specs.Lives.{Life, Watched}
 use Rattle.xr_match.specs.Systems.{SomeIs}
 use Rattle.xr_threads.specs.Living.{AreNamed}
 use Rattle.xr_threads.specs.Roles.{AreRoles, AreUsedSo, HandFits, Roles, got_by, used_by}
-use Rattle.xr_threads.specs.Runners.{Setting, Runner, IsLaidOut, IsPort, MayChange, anyone, of_stack, of_variable, places, port_place}
+use Rattle.xr_threads.specs.Runners.{HoldsPlaces, Setting, Runner, IsLaidOut, IsPort, MayChange, anyone, of_stack, of_variable, places, port_place}
 use Rattle.xr_threads.specs.ThreadViews.{Guarantee, Owns, StillRuns}
 use Rattle.xr_threads.specs.Standing.{AreLoose, EventsAre, IsRun, IsWanted, NobodyChanges, NobodyHas, Stand, Stands, StandsBy, ThreadIs, none_rests, only}
 use Rattle.xr_threads.specs.Turns.{PortIs}
@@ -55,7 +55,7 @@ module _ (g : Setting) (who who' : Roles) (c : ℕ) (a b : CoreState) (x y : Wor
       (λ h. let z : ⊥ = omega (arith, h, lt', is') in z)
       (laid.frame.apart v n i found near lt)
 
-  variable_still : (v : ℕ) → NobodyChanges who' c v → IsWanted who' c v → Holds (places g c) (only v) 0 b.words y.store
+  variable_still : (v : ℕ) → NobodyChanges who' c v → IsWanted who' c v → HoldsPlaces g c (only v) b.words y.store
   variable_still v nobody wanted =
       let old = changes v nobody in
       holds_on (places g c) v a.words b.words x.store y.store (leaves.store v old.0)

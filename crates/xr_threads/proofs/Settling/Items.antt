@@ -18,7 +18,6 @@ use Rattle.xc_meaning.specs.States.Branches.{Branch, runs, waits}
 use Rattle.xc_meaning.specs.States.Items.{Item, does, mark, ends, todo}
 use Rattle.xc_meaning.specs.States.Worlds.{Action, World, go, only_if}
 use Rattle.xc_meaning.specs.Uses.{by_items}
-use Rattle.xl_expr.specs.Frames.{Holds}
 use Rattle.xl_expr.proofs.Lists.{get_set_same, get_set_other}
 use Rattle.xl_par.specs.Hands.{Hand, IsAmong}
 use Rattle.xr_threads.specs.Fits.{FitOn, ItemsFit}
@@ -27,7 +26,7 @@ use Rattle.xr_threads.specs.Parents.{Parent, sync_before, syncs_of}
 use Rattle.xl_sides.specs.Ends.{Sides}
 use Rattle.xl_walk.specs.Pieces.{ClosesAt, Exit, Jumps, PiecesAt}
 use Rattle.xr_threads.specs.Roles.{ParentWaits, ParentsWait}
-use Rattle.xr_threads.specs.Runners.{Footprint, Setting, Runner, IsPort, code, footprint_of, places, plan, port_place, shrunk}
+use Rattle.xr_threads.specs.Runners.{HoldsPlaces, Footprint, Setting, Runner, IsPort, code, footprint_of, plan, port_place, shrunk}
 use Rattle.xr_threads.specs.ThreadViews.{IsStable, Owns, ThreadView}
 use Rattle.xr_threads.specs.Turns.{EndOf, HasBases, HoldsNames, HoldsStore, IsAt, IsJoining, ItemsFrom, Joins, PortsStand, Rest, Runs, finished, is_watching}
 use Rattle.xr_threads.proofs.ItemCode.ParCloses.{closes_leads}
@@ -88,9 +87,9 @@ module _ (g : Setting) (r : Runner) where
       ((v : ℕ) → (footprint_of items).uses v ≡ true → r.footprint.uses v ≡ true) → y.core ≡ z.core → y.world.store ≡ z.world.store →
       HoldsStore g r z → HoldsStore g (going r b ps sides inside items) y
   less_holds b ps sides inside items z y less same_core same_store h =
-      let was : Holds (places g r.core) r.footprint.uses 0 y.core.words y.world.store =
-      subst (λ c. Holds (places g r.core) r.footprint.uses 0 c.words y.world.store) (sym same_core)
-      (subst (λ s. Holds (places g r.core) r.footprint.uses 0 z.core.words s) (sym same_store) h.holds) in
+      let was : HoldsPlaces g r.core r.footprint.uses y.core.words y.world.store =
+      subst (λ c. HoldsPlaces g r.core r.footprint.uses c.words y.world.store) (sym same_core)
+      (subst (λ s. HoldsPlaces g r.core r.footprint.uses z.core.words s) (sym same_store) h.holds) in
       let size : length y.core.words ≡ length z.core.words = ap (λ c. length c.words) same_core in
       record {
         holds = record {

@@ -12,12 +12,11 @@ use Rattle.xc_meaning.specs.Runs.{acts_all}
 use Rattle.xc_meaning.specs.States.Branches.{Branch, has_ended}
 use Rattle.xc_meaning.specs.States.Worlds.{Action, World}
 use Rattle.xc_meaning.specs.Uses.{by_items}
-use Rattle.xl_expr.specs.Frames.{Holds}
 use Rattle.xl_par.specs.Hands.{Hand, IsAmong}
 use Rattle.xr_match.specs.Systems.{SomeIs}
 use Rattle.xr_threads.specs.Parents.{Parent, branches_of}
 use Rattle.xr_threads.specs.Roles.{AreRoles, AreUsedSo, HasReserves, IsParent, Roles, got_by, own_branches, used_by}
-use Rattle.xr_threads.specs.Runners.{Runner, Setting, places}
+use Rattle.xr_threads.specs.Runners.{HoldsPlaces, Runner, Setting}
 use Rattle.xr_threads.specs.ThreadViews.{Owns, giving_back, held_in, sync_in}
 use Rattle.xr_threads.specs.Standing.{AreLoose, IsMade, IsRun, IsWanted, Stand, Standing, Stands, living_on}
 use Rattle.xr_threads.specs.Transfers.{Transfer}
@@ -188,7 +187,7 @@ module _ {may_rest : (core thread : ℕ) → Bool} {moment : Moment may_rest} (t
         loose_behind g who who_settled c a a x.state y r core_is (laid_at moment c t r None runs_r)
         (st.loose c a at_c some) (record
         { words = λ k ne. refl; resources = others_same _ _ _ _ refl refl refl; store = λ v ne. ap (λ l. words_of l v) d.store })
-        (record { holds = subst (λ l. Holds (places g r.core) r.footprint.uses 0 a.words l) (sym d.store) holds.holds; room = holds.room })
+        (record { holds = subst (λ l. HoldsPlaces g r.core r.footprint.uses a.words l) (sym d.store) holds.holds; room = holds.room })
         (λ q listed its. let k = ports q listed its in record { port = k.port; there = k.there; declared = k.declared })
         (λ v nobody no u i other at. ⊎_elim (λ (same : r ≡ i). subst (λ (k : Runner). k.footprint.changes v ≡ false) same no) (λ now. nobody u i other now) (runner_still c u i other at))
         (λ v want. want_before v want)
