@@ -1,5 +1,5 @@
 -- What a thread's next step is, once it stands at the own instruction of its branch's first item, and the branch's action that goes with it.
-use Rattle.std.specs.Prelude.{◌≡◌, ℕ, zero, suc, ◌+◌, ◌*◌, ◌-◌, ◌<◌, ◌≤◌, Bool, true, false, List, [], ◌∷◌, Option, Some, None, length, slice_get, slice_index_or, slice_set}
+use Rattle.std.specs.Prelude.{◌≡◌, ℕ, zero, suc, ◌+◌, ◌*◌, ◌-◌, ◌<◌, ◌≤◌, Bool, true, false, List, [], ◌∷◌, Option, Some, None, length, slice_get, slice_index_or, slice_set, nat_eq, ◌||◌}
 use Rattle.xw_words.specs.declared.pos.Pos.{Pos}
 use Rattle.xs_instr.specs.declared.state.CoreState.{CoreState}
 use Rattle.xs_instr.specs.declared.instr.Reg.{Reg}
@@ -7,6 +7,8 @@ use Rattle.xs_instr.specs.declared.instr.Reg.TheVariants.{R0, R1, R2, R3, R4, R5
 use Rattle.xs_instr.specs.declared.state.Mode.TheVariants.{Unused, Waiting}
 use Rattle.xs_instr.specs.declared.state.Port.{Port}
 use Rattle.xs_instr.specs.declared.state.Regs.{Regs}
+use Rattle.xs_instr.specs.declared.state.Res.{Res}
+use Rattle.xs_instr.specs.declared.state.Res.TheVariants.{End as ResEnd, Port as ResPort, Timer as ResTimer}
 use Rattle.xs_instr.specs.declared.state.Thread.{Thread}
 use Rattle.xs_instr.specs.declared.trace.Record.{Record}
 use Rattle.xs_instr.specs.declared.trace.Record.TheVariants.{Fault}
@@ -35,6 +37,7 @@ use Rattle.xc_meaning.specs.States.Worlds.{World, Action, go, take, default}
 use Rattle.xc_meaning.specs.Runs.{acts}
 use Rattle.xc_meaning.specs.Uses.{by_item}
 use Rattle.xl_chan.specs.Protocols.{Act, ActsAll, input_acts, output_acts}
+use Rattle.xl_expr.specs.ResourceParts.{part_of}
 use Rattle.xl_expr.specs.Stores.{Stores}
 use Rattle.xl_sides.specs.Ends.{Sides, codes_in}
 use Rattle.xl_par.specs.Hands.{Hand, IsAmong, empty_hand}
@@ -138,13 +141,23 @@ name_register more = R7
 pub record HoldsNames (core : ℕ) (syncs : List ℕ) (regs : Regs) : Type 0 where
   pub by : (place n : ℕ) → slice_get syncs place ≡ Some n → place < 7 → reg_get regs (name_register place) ≡ sync_name core n
 
--- Two cores have the same of each port whose stamp one of the first items has still to store.
-abbrev pub SameStamps : Setting → (core : ℕ) → List Item → (a b : CoreState) → Type 0
-SameStamps g core (stores place v ∷ rest) a b = SameStamps g core rest a b
-SameStamps g core (stamps (resource.Port p) place v ∷ rest) a b =
-    (slice_get b.ports (port_number core g.program.ports p) ≡ slice_get a.ports (port_number core g.program.ports p)) × SameStamps g
-    core rest a b
-SameStamps g core items a b = Unit {0}
+-- the port with this number
+abbrev pub is_port : (n : ℕ) → Res → Bool
+is_port n (ResPort m) = nat_eq n m
+is_port n (ResTimer m) = false
+is_port n (ResEnd m) = false
+
+-- A thread stands on a part of its core where what it does next is to find it as it is: a port whose stamp one of the first items has
+-- still to store.
+abbrev pub stands_on_part : Setting → (core : ℕ) → List Item → Res → Bool
+stands_on_part g core (stores place v ∷ rest) part = stands_on_part g core rest part
+stands_on_part g core (stamps (resource.Port p) place v ∷ rest) part =
+    is_port (port_number core g.program.ports p) part || stands_on_part g core rest part
+stands_on_part g core items part = false
+
+-- two cores have the same of each of these parts
+abbrev pub SameParts : Setting → (core : ℕ) → List Item → (a b : CoreState) → Type 0
+SameParts g core items a b = (part : Res) → stands_on_part g core items part ≡ true → part_of b part ≡ part_of a part
 
 -- A piece of code on a channel: it puts a word out, or takes one in.
 pub data Piece : Type 0 where
@@ -222,11 +235,11 @@ module _ (g : Setting) (r : Runner) where
 
   -- Where a thread stands between two own steps, at an index with these registers: at the code of its branch's items, with j jumps
   -- between them. A store is what an earlier item left to be done: its word is in r0, and behind its code, with whatever registers,
-  -- stands what comes next, which takes no event, as long as the ports whose stamps are due stay.
+  -- stands what comes next, which takes no event, as long as the parts of the core stay on which that stands.
   abbrev pub StandsAt : List Item → (j pc : ℕ) → Regs → CoreState → Type 0
   StandsAt (stores place v ∷ rest) j pc regs core =
       (stored : ℕ) × (regs.r0 ≡ v) × LinesAt (code g r) (Stores (plan g r).vars place R0) pc stored × (is_watching rest ≡ false)
-      × ((regs' : Regs) (core' : CoreState) → HasBases regs' → SameStamps g r.core rest core core' → StandsAt rest j stored regs' core')
+      × ((regs' : Regs) (core' : CoreState) → HasBases regs' → SameParts g r.core rest core core' → StandsAt rest j stored regs' core')
   StandsAt items j pc regs core = (exits : List Exit) × ItemsFrom items exits pc j
 
   -- the branch has these items, and the core has its words and ports

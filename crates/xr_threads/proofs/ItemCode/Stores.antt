@@ -4,7 +4,7 @@ use Rattle.std.proofs.Common.{◌≡◌, ℕ, ◌+◌, ◌-◌, ◌*◌, ◌≤�
 use Rattle.xs_instr.specs.declared.state.Regs.{Regs}
 use Rattle.xs_instr.specs.OwnSteps.{IsApart}
 use Rattle.xs_instr.specs.declared.state.CoreState.{CoreState}
-use Rattle.xr_threads.proofs.RelyGuarantee.Stands.{stamps_own, stamps_then}
+use Rattle.xr_threads.proofs.RelyGuarantee.Stands.{parts_own}
 use Rattle.xc_kernel.specs.Plain as kernel
 use Rattle.xc_meaning.specs.States.Items.{Item, stores}
 use Rattle.xl_expr.specs.Measures.{nodes_at}
@@ -12,8 +12,8 @@ use Rattle.xl_expr.specs.Stores.{StoreOutcome, index_in}
 use Rattle.xr_threads.specs.Fits.{ItemsFit}
 use Rattle.xr_threads.specs.Runners.{Setting, Runner, IsLaidOut, home, plan, relied}
 use Rattle.xr_threads.specs.ThreadViews.{ThreadView, running}
-use Rattle.xr_threads.specs.Turns.{Has, HasBases, IsAt, Leads, SameStamps, StandsAt, Turns, cost}
-use Rattle.xr_threads.proofs.RelyGuarantee.Arrival.{Since, any_part, apart_of_changes, arrives, at_runs, ports_since, since_kept}
+use Rattle.xr_threads.specs.Turns.{Has, HasBases, IsAt, Leads, SameParts, StandsAt, Turns, cost}
+use Rattle.xr_threads.proofs.RelyGuarantee.Arrival.{Since, any_part, apart_of_changes, arrives, at_runs, since_kept}
 use Rattle.xr_threads.proofs.ItemCode.Evaluations.{nodes_at_are}
 use Rattle.xr_threads.proofs.RelyGuarantee.Layouts.{has_since, place_laid_at, room_of, runs_at}
 use Rattle.xr_threads.proofs.RelyGuarantee.ThreadViews.{leads_as, leads_more}
@@ -33,8 +33,9 @@ stored_leads g r laid place v rest j index regs z bases (stored, is, code, unwat
     let outcome : ℕ → ThreadView → Type 0 = λ w y. StoreOutcome (plan g r).vars (home g r) (relied g r) r.stack r.thread
     (running r.tie index regs) z.core.words place w at_end i y.core in
     let way = code.so.by (home g r) (relied g r) r.stack r.thread (running r.tie index regs) z.world.store z.core code.stand (runs_at g r z index regs here) (room_of g r laid z regs bases has.holds) (place_laid_at g r laid z regs place uses_place bases has.holds) in
-    let behind' : (regs' : Regs) (core' : CoreState) → HasBases g r regs' → SameStamps g r.core rest z.core core' → StandsAt g r rest j at_end regs' core' =
-    subst (λ p. (regs' : Regs) (core' : CoreState) → HasBases g r regs' → SameStamps g r.core rest z.core core' →
+    let behind' : (regs' : Regs) (core' : CoreState) → HasBases g r regs' → SameParts g r.core rest z.core core' →
+    StandsAt g r rest j at_end regs' core' =
+    subst (λ p. (regs' : Regs) (core' : CoreState) → HasBases g r regs' → SameParts g r.core rest z.core core' →
     StandsAt g r rest j p regs' core') code.end behind in
     let le : most ≤ cost g r = let a = nodes_at_are place in omega arith in
     leads_more g r (Turns g r j) most (cost g r) z le
@@ -42,10 +43,9 @@ stored_leads g r laid place v rest j index regs z bases (stored, is, code, unwat
     (λ y h q k.
     let since = since_kept g r (IsApart r.stack) any_part h.1 k in
     let has_q = has_since g r laid (stores place v ∷ rest) z q since (since.room has.holds.room) has in
-    let stamps = stamps_own g r rest z.core q.core
-    (λ p listed is. ports_since g r (IsApart r.stack) any_part z q since p listed is tt) rest_fits in
+    let same : SameParts g r.core rest z.core q.core = λ part on. since.parts part (parts_own g r rest part rest_fits on) tt in
     store_turns g r laid (stores place v) place rest index at_end j uses_place changes (target_changed place) rest_fits unwatched q
-    (λ regs' core' bases' still. behind' regs' core' bases' (stamps_then g r.core rest z.core q.core core' stamps still)) z y regs v i
+    (λ regs' core' bases' still. behind' regs' core' bases' (λ part on. still part on ∙ same part on)) z y regs v i
     bases k since (since.hand ∙ no_hand) has_q
     refl refl (subst (λ w. outcome w y) is h.0))
     (arrives g r (IsApart r.stack) (apart_of_changes g r) (λ b. StoreOutcome (plan g r).vars (home g r) (relied g r) r.stack r.thread (running r.tie index regs) z.core.words place regs.r0 at_end i b) most z (at_runs g r z index regs here) way))

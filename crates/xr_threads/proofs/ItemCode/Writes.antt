@@ -27,7 +27,7 @@ use Rattle.xr_threads.specs.Fits.{ItemsFit, UsesAt}
 use Rattle.xr_threads.specs.Runners.{HoldsPlaces, Setting, Runner, IsLaidOut, MayChange, home, plan, relied}
 use Rattle.xr_threads.specs.ThreadViews.{ThreadView, Rely, running}
 use Rattle.xr_threads.specs.Turns as turn
-use Rattle.xr_threads.specs.Turns.{HasBases, Has, Goes, SameStamps, StandsAt, Turn, is_watching}
+use Rattle.xr_threads.specs.Turns.{HasBases, Has, Goes, SameParts, StandsAt, Turn, is_watching}
 use Rattle.xr_threads.proofs.RelyGuarantee.Arrival.{Since, any_part, core_kept}
 use Rattle.xr_threads.proofs.Image.Bases.{bases_worked}
 use Rattle.xr_threads.proofs.ItemCode.Evaluations.{index_still, item_acts, value_errs, with_items}
@@ -74,7 +74,7 @@ module _ (g : Setting) (r : Runner) (laid : IsLaidOut g r) (item : Item) (place 
     (uses_place : UsesAt g r place) (changes : r.footprint.changes (variable_of place) ≡ true)
     (changed_first : by_item (change (variable_of place)) item ≡ true) (rest_fits : ItemsFit g r rest)
     (unwatched : is_watching rest ≡ false) (q : ThreadView)
-    (behind : (regs' : Regs) (core' : CoreState) → HasBases g r regs' → SameStamps g r.core rest q.core core' →
+    (behind : (regs' : Regs) (core' : CoreState) → HasBases g r regs' → SameParts g r.core rest q.core core' →
     StandsAt g r rest j pc' regs' core') where
   -- what its step is there
   abbrev pub Stores : World → Branch → (v : ℕ) → Type 0

@@ -17,16 +17,16 @@ use Rattle.xc_meaning.specs.States.Worlds.{World, go}
 use Rattle.xc_meaning.specs.Runs.{acts}
 use Rattle.xc_meaning.specs.Uses.{by_item}
 use Rattle.xl_expr.proofs.Lists.{get_set_same, get_set_other}
-use Rattle.xl_expr.proofs.ResourceParts.{others_same}
+use Rattle.xl_expr.proofs.ResourceParts.{part_same, others_same}
 use Rattle.xl_walk.specs.Pieces.{Exit}
 use Rattle.xr_threads.specs.Fits.{ItemsFit}
 use Rattle.xr_threads.specs.Runners.{HoldsPlaces, Setting, Runner, MayChange, home}
 use Rattle.xr_threads.specs.ThreadViews.{ThreadView, running}
-use Rattle.xr_threads.specs.Turns.{HasBases, Has, IsAt, ItemsFrom, Goes, SameStamps, StandsAt, first_changes, is_watching, own_go}
+use Rattle.xr_threads.specs.Turns.{HasBases, Has, IsAt, ItemsFrom, Goes, SameParts, StandsAt, first_changes, is_watching, own_go}
 use Rattle.xr_threads.proofs.ItemCode.Evaluations.{runs_with, with_items}
 use Rattle.xr_threads.proofs.RelyGuarantee.Layouts.{ports_last}
 use Rattle.xr_threads.proofs.Relation.Sizes.{words_sized}
-use Rattle.xr_threads.proofs.RelyGuarantee.Stands.{items_stand, stamps_left}
+use Rattle.xr_threads.proofs.RelyGuarantee.Stands.{items_stand}
 use Rattle.xr_threads.proofs.RelyGuarantee.Events.{here_at, items_unwatched}
 
 -- the turn of a running thread that takes no events is the row of its instruction
@@ -52,13 +52,13 @@ module _ (g : Setting) (r : Runner) where
       acts g.program g.stimulus y.world (go r.branch) ≡ Some (record (with_items y.world r.branch has.branch items) { store = store }) →
       ((v : ℕ) → by_item (change v) item ≡ false → words_of store v ≡ words_of y.world.store v) →
       HoldsPlaces g r.core r.footprint.uses words store → r.stack + temporary ≤ length words → is_watching items ≡ false →
-      (jumps : ℕ) → ((core : CoreState) → SameStamps g r.core items y.core core → StandsAt g r items jumps pc regs core) →
+      (jumps : ℕ) → ((core : CoreState) → SameParts g r.core items y.core core → StandsAt g r items jumps pc regs core) →
       ItemsFit g r items → jumps ≤ j + 1 → Goes g r j y
   own_goes j y pc regs words made bases no_hand item rest items store has acted same holds room unwatched jumps stands fits fewer =
       let th = running r.tie made.index regs in
       let th' = running r.tie pc regs in
       let left = put_own y.core r.thread th (record { pc = pc; regs = regs; words = words }) in
-      let stand = stands left (stamps_left g r.core items y.core left refl) in
+      let stand = stands left (λ part on. part_same y.core left refl refl refl part) in
       let x : World = record (with_items y.world r.branch has.branch items) { store = store } in
       record {
         left = left;
