@@ -142,17 +142,17 @@ pub record HoldsNames (core : ℕ) (syncs : List ℕ) (regs : Regs) : Type 0 whe
   pub by : (place n : ℕ) → slice_get syncs place ≡ Some n → place < 7 → reg_get regs (name_register place) ≡ sync_name core n
 
 -- the port with this number
-abbrev pub is_port : (n : ℕ) → Res → Bool
-is_port n (ResPort m) = nat_eq n m
-is_port n (ResTimer m) = false
-is_port n (ResEnd m) = false
+abbrev pub is_port_number : (n : ℕ) → Res → Bool
+is_port_number n (ResPort m) = nat_eq n m
+is_port_number n (ResTimer m) = false
+is_port_number n (ResEnd m) = false
 
 -- A thread stands on a part of its core where what it does next is to find it as it is: a port whose stamp one of the first items has
 -- still to store.
 abbrev pub stands_on_part : Setting → (core : ℕ) → List Item → Res → Bool
 stands_on_part g core (stores place v ∷ rest) part = stands_on_part g core rest part
 stands_on_part g core (stamps (resource.Port p) place v ∷ rest) part =
-    is_port (port_number core g.program.ports p) part || stands_on_part g core rest part
+    is_port_number (port_number core g.program.ports p) part || stands_on_part g core rest part
 stands_on_part g core items part = false
 
 -- two cores have the same of each of these parts

@@ -12,11 +12,11 @@ use Rattle.xl_walk.specs.Pieces.{Exit}
 use Rattle.xr_threads.specs.Fits.{ItemsFit}
 use Rattle.xr_threads.specs.Runners.{Footprint, IsMine, IsPort, Setting, Runner, port_place}
 use Rattle.xr_threads.specs.Transfers.{Transfer}
-use Rattle.xr_threads.specs.Turns.{ItemsFrom, SameParts, StandsAt, is_port, stands_on_part}
+use Rattle.xr_threads.specs.Turns.{ItemsFrom, SameParts, StandsAt, is_port_number, stands_on_part}
 
 module _ (g : Setting) (r : Runner) where
   -- a port that the runner has is its own
-  port_own : (p : ℕ) (listed : PortUse) → IsPort g r p listed → (part : Res) → is_port (port_place g r p) part ≡ true → IsMine g r part
+  port_own : (p : ℕ) (listed : PortUse) → IsPort g r p listed → (part : Res) → is_port_number (port_place g r p) part ≡ true → IsMine g r part
   port_own p listed is (ResPort n) e = record { port = p; listed = listed; is = is; place = sym (eqb-true (port_place g r p) n e) }
   port_own p listed is (ResTimer n) e = absurd (cc)
   port_own p listed is (ResEnd n) e = absurd (cc)
@@ -29,7 +29,7 @@ module _ (g : Setting) (r : Runner) where
   parts_own (stores place v ∷ rest) part fits on = parts_own rest part fits.1 on
   parts_own (stamps (Port p) place v ∷ rest) part fits on =
       ⊎_elim (λ here. port_own p fits.0.0.0 fits.0.0.1 part here) (λ there. parts_own rest part fits.1 there)
-      (or_cases (is_port (port_place g r p) part) (stands_on_part g r.core rest part) on)
+      (or_cases (is_port_number (port_place g r p) part) (stands_on_part g r.core rest part) on)
   parts_own (stamps (Timer t) place v ∷ rest) part fits on = absurd (cc)
   parts_own (stamps (Chan n) place v ∷ rest) part fits on = absurd (cc)
   parts_own (mark n ∷ rest) part fits on = absurd (cc)
