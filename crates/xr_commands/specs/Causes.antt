@@ -1,11 +1,12 @@
 -- When each status comes, and what comes where nothing fails.
-use Rattle.std.specs.Prelude.{◌≡◌, ◌⊎◌, ◌<◌, ◌≤◌, ℕ, Bool, List, [], length, Option, Some, None}
+use Rattle.std.specs.Prelude.{◌≡◌, ◌⊎◌, ◌<◌, ◌≤◌, ℕ, Bool, true, false, List, [], length, Option, Some, None}
 use Rattle.xw_io.specs.Outside.{Rose, IsFileOf, IsMissing, IsTooLong, found, max_file}
 use Rattle.xw_io.specs.declared.file.File.{File}
 use Rattle.xw_words.specs.declared.pos.Broken.{Broken}
 use Rattle.xs_instr.specs.declared.image.Image.{Image}
 use Rattle.xs_instr.specs.declared.image.Stim.{Stim}
 use Rattle.xs_instr.specs.declared.trace.EndWord.{EndWord}
+use Rattle.xs_instr.specs.declared.trace.EndWord.TheVariants.{Finished, Stuck, Stopped}
 use Rattle.xs_instr.specs.declared.trace.Record.{Record}
 use Rattle.xc_tree.specs.Plain.{Item}
 use Rattle.xr_commands.specs.Answers.{status_of_run}
@@ -24,7 +25,35 @@ OfFile words P = (c : Command) × (means words ≡ Some c) × P (file_of c)
 abbrev pub OfDue : List (List ℕ) → Option (List File) → (List ℕ → Type 0) → Type 0
 OfDue words files P = (c : Command) × (means words ≡ Some c) × ((name : List ℕ) × IsDue files c name × P name)
 
--- Each status comes only with its cause.
+-- the words mean a run, whose text's image was run in lockstep, and of its end word and whether a thread is trapped in the end this is so
+pub record WasRun (words : List (List ℕ)) (shelf : Loads) (IsSo : EndWord → Bool → Type 0) : Type 0 where
+  pub file : List ℕ
+  pub ticks : ℕ
+  pub stim : Option (List ℕ)
+  pub means_run : means words ≡ Some (Run file ticks stim)
+  pub text : List ℕ
+  pub told : IsFileOf shelf.files file text
+  pub L : Image
+  pub compiled : IsCompiled text L
+  pub s : Stim
+  pub stimulus : IsStimOf shelf.files stim s
+  pub lines : List Record
+  pub word : EndWord
+  pub trapped : Bool
+  pub lockstep : IsRunFor L s ticks lines word trapped
+  pub is_so : IsSo word trapped
+
+-- Each status of a text that is accepted comes only with its cause: 0 of every command where all is done, of a run where it has finished
+-- without a trap.
+pub record OutputCauses (words : List (List ℕ)) (shelf : Loads) (status : ℕ) : Type 0 where
+  pub done : status ≡ 0 → OfFile words (λ file. (text : List ℕ) × IsFileOf shelf.files file text × ((P : List Item) × IsAccepted text P))
+  pub finished : status ≡ 0 → (file : List ℕ) (ticks : ℕ) (stim : Option (List ℕ)) → means words ≡ Some (Run file ticks stim) →
+      WasRun words shelf (λ word trapped. (word ≡ Finished) × (trapped ≡ false))
+  pub trapped : status ≡ 3 → WasRun words shelf (λ word trapped. trapped ≡ true)
+  pub stopped : status ≡ 4 → WasRun words shelf (λ word trapped. (word ≡ Stopped) × (trapped ≡ false))
+  pub stuck : status ≡ 5 → WasRun words shelf (λ word trapped. (word ≡ Stuck) × (trapped ≡ false))
+
+-- Each status comes only with its cause, and there are no others.
 pub record OnlyCauses (words : List (List ℕ)) (shelf : Loads) (out err : Span) (status : ℕ) : Type 0 where
   pub refused : status ≡ 1 → OfFile words (λ file. (text : List ℕ) × IsFileOf shelf.files file text × ((b : Broken) × First text b))
   pub usage : status ≡ 2 → means words ≡ None
@@ -33,6 +62,8 @@ pub record OnlyCauses (words : List (List ℕ)) (shelf : Loads) (out err : Span)
   pub read_fault : status ≡ 8 → Rose shelf.faults shelf.faults' × OfDue words shelf.files (λ name. Unit {0})
   pub write_fault : status ≡ 9 → Rose out.faults out.faults' ⊎ Rose err.faults err.faults'
   pub no_memory : status ≡ 12 → Gained out []
+  pub output : OutputCauses words shelf status
+  pub others : (status ≤ 9) ⊎ (status ≡ 12)
 
 -- no count of faults rose
 pub record NoFault (shelf : Loads) (out err : Span) : Type 0 where
