@@ -1,0 +1,1 @@
+"""What brings text and the repository to today's names."""
