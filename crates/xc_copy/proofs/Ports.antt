@@ -8,8 +8,8 @@ use Rattle.xc_tree.specs.declared.tree.Item.{Item}
 use Rattle.xc_kernel.specs.Ports.{scope_of_ports}
 use Rattle.xc_kernel.specs.Programs.{ports}
 use Rattle.xc_kernel.specs.Scopes.{a_port, with_name}
-use Rattle.xc_roots.specs.Contexts.{ports_from}
-use Rattle.xc_roots.proofs.Laws.Lists.{drop_item, drop_end}
+use Rattle.xc_inline.specs.Contexts.{ports_from}
+use Rattle.xc_inline.proofs.Laws.Lists.{drop_item, drop_end}
 use Rattle.xc_copy.specs.Ports.{names_among, names_of_ports}
 
 -- ports of these names have these numbers

@@ -10,18 +10,18 @@ ghost use Rattle.xw_words.specs.Ports.{identifiers};
 ghost use Rattle.xc_kernel.specs.Kernels.{kernel_of, root_of};
 ghost use Rattle.xc_kernel.specs.Ports as ports_spec;
 ghost use Rattle.xc_kernel.specs.Programs as programs;
-ghost use Rattle.xc_roots.specs.Contexts.{functions_of, ports_from};
-ghost use Rattle.xc_roots.specs.Functions.{HasFewParameters, function_of};
-ghost use Rattle.xc_roots.specs.Instances.{instance_count};
-ghost use Rattle.xc_roots.specs.Numbers.{numbering_of};
+ghost use Rattle.xc_inline.specs.Contexts.{functions_of, ports_from};
+ghost use Rattle.xc_inline.specs.Functions.{HasFewParameters, function_of};
+ghost use Rattle.xc_inline.specs.Instances.{instance_count};
+ghost use Rattle.xc_inline.specs.Numbers.{numbering_of};
 ghost use Rattle.xc_copy.specs.Ports.{names_among, names_of_ports};
-ghost use Rattle.xc_roots.specs.Roots.{numbering_by, rooted_by, rooted_of};
+ghost use Rattle.xc_inline.specs.Roots.{numbering_by, rooted_by, rooted_of};
 
 use std::alloc::Global;
-use xc_kernel::{Kernel, PortUse};
-use xc_roots::{
+use xc_inline::{
     Functions, Numbers, Rooted, beside, both, core_outside, pos_of_place, roots_by_numbers,
 };
+use xc_kernel::{Kernel, PortUse};
 use xc_tree::{FuncItem, Item, PortItem, Tree};
 use xw_words::{List, Memory, PORT_COUNT, Pos, identifier_place};
 

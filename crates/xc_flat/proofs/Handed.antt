@@ -16,7 +16,7 @@ use Rattle.xc_kernel.specs.Programs.{functions, ports}
 use Rattle.xc_kernel.specs.Copies.{Copies}
 use Rattle.xc_kernel.specs.Size.{IsTooLarge, most_statements}
 use Rattle.xc_kernel.specs.Sound.{IsOfProgram, IsTyped}
-use Rattle.xc_roots.specs.Functions.{HasFewParameters}
+use Rattle.xc_inline.specs.Functions.{HasFewParameters}
 use Rattle.xc_names.proofs.Bounds.{few_items, few_names}
 use Rattle.xc_names.proofs.Declared.{count, count_append}
 

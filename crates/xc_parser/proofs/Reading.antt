@@ -1,2 +1,2 @@
 -- What crates above cite of the proofs of phrases.
-pub use Rattle.xc_phrases.proofs.Reading.Exits
+pub use Rattle.xc_nonterminals.proofs.Reading.Exits

@@ -9,13 +9,13 @@ ghost use Rattle.xc_tree.specs.Refusals.{IfBroken};
 ghost use Rattle.xc_tree.specs.Symbol as symbol;
 ghost use Rattle.xc_tree.specs.Trees.{item_of, program_of};
 ghost use Rattle.xw_words.specs.declared.pos.Broken.{Broken};
-ghost use Rattle.xc_phrases.specs.Follows.{OneOf, first};
-ghost use Rattle.xc_phrases.specs.Programs.{Halted};
-ghost use Rattle.xc_phrases.specs.Reading.{Reads};
-ghost use Rattle.xc_phrases.specs.Stops.{Stopped};
+ghost use Rattle.xc_nonterminals.specs.Follows.{OneOf, first};
+ghost use Rattle.xc_nonterminals.specs.Programs.{Halted};
+ghost use Rattle.xc_nonterminals.specs.Reading.{Reads};
+ghost use Rattle.xc_nonterminals.specs.Stops.{Stopped};
 
 use std::alloc::Global;
-use xc_phrases::{FunctionHead, Parser, Read, Stop, begins_type, is_symbol, is_word};
+use xc_nonterminals::{FunctionHead, Parser, Read, Stop, begins_type, is_symbol, is_word};
 use xc_tree::symbols::SEMICOLON;
 use xc_tree::words::VOID_WORD;
 use xc_tree::{FuncItem, Item, Refusal, Tok, Tree};

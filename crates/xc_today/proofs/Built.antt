@@ -21,10 +21,10 @@ use Rattle.xc_kernel.specs.Statements.{statement_copy}
 use Rattle.xc_kernel.specs.Roots.{Rooted, is_placed, has_placed, action_has_placed, block_has_placed, in_block, context_of, roots_by, roots_of}
 use Rattle.xc_kernel.specs.Ports.{port_use}
 use Rattle.xc_kernel.specs.Copies.{calls_of, rooted, copy_of}
-use Rattle.xc_formed.specs.Each.{AnyExpression, AnyPlace, AnyNumber, EachStatement, EachOf, EachBranch, EachRoot}
-use Rattle.xc_formed.specs.Transfers.{OutputGoes, InputComes, GoesOut, ComesIn, can_read}
-use Rattle.xc_formed.proofs.Formed.{transfers_right}
-use Rattle.xc_formed.proofs.Grammar.{AllOf, MaybeOf}
+use Rattle.xc_wellformed.specs.Each.{AnyExpression, AnyPlace, AnyNumber, EachStatement, EachOf, EachBranch, EachRoot}
+use Rattle.xc_wellformed.specs.Transfers.{OutputGoes, InputComes, GoesOut, ComesIn, can_read}
+use Rattle.xc_wellformed.proofs.Formed.{transfers_right}
+use Rattle.xc_wellformed.proofs.Grammar.{AllOf, MaybeOf}
 use Rattle.xl_walk.specs.Built.{IsSent, IsReceived, IsBuilt, AreBuilt, BranchesAreBuilt}
 use Rattle.xl_image.specs.Roots.{RootsAreBuilt, StayOnCores}
 use Rattle.xc_today.specs.Today.{AreItemsUnstamped}

@@ -11,7 +11,7 @@ use Rattle.xc_tree.specs.Words as words
 use Rattle.xc_tree.specs.Symbol.{Symbol, sym, key, a_name, a_number, many, maybe, commas, program, item, portdecl, dir, place, place_value, head, result, word, params, param, body, block, block_item, decl, dv, initial, statement, closed, case_item, for_start, for_step, branch, case, guard, assign, assign_op, rhs, call, arguments, argument, lval, output, input, time, stamp, waits, test, dest, expr, level, operator, sign, atom, Value, Values}
 use Rattle.xc_tree.specs.Grammar.{Rule, Extent, rules, kept, one_of, operators}
 use Rattle.xc_tree.specs.Derives.{Room, extent, Derives, IsProgram, a_sym, a_key, named, counted, by_rule, Row, done, next}
-use Rattle.xc_formed.proofs.Grammar.{AllOf, MaybeOf}
+use Rattle.xc_wellformed.proofs.Grammar.{AllOf, MaybeOf}
 use Rattle.xc_today.specs.Today.{later_words, AreOfToday, is_word, PortsAreOut, IsBuiltToday}
 use Rattle.xc_today.specs.Laws.{IsOutKind, AreOutParams, IsOutItem, AreOutItems, PortsGoOut}
 use Rattle.xc_today.proofs.Early.{no_one, of_today}

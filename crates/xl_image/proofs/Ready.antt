@@ -9,13 +9,13 @@ use Rattle.xc_disjoint.specs.Checked.{IsChecked}
 use Rattle.xc_disjoint.specs.Cores.{if_so}
 use Rattle.xc_disjoint.specs.Needs.{threads_of_root}
 use Rattle.xc_disjoint.specs.Threads as threads
-use Rattle.xc_formed.specs.Each.{AnyNumber, AnyOutput, AnyInput, EachMaybe, EachPlace, EachStatement, EachOf, EachBranch, EachRoot}
-use Rattle.xc_formed.specs.Levels.{IsLow, IsLowPlace, levels, levels_of_all}
-use Rattle.xc_formed.specs.Exits.{LeavesIn, AllLeaveIn, BranchesLeaveIn, EachRootLeaves}
-use Rattle.xc_formed.specs.Parts as parts
-use Rattle.xc_formed.specs.Parts.{words_of, most_parts}
-use Rattle.xc_formed.proofs.Formed.{of_programs}
-use Rattle.xc_formed.proofs.FewRoots.{parts_are_few}
+use Rattle.xc_wellformed.specs.Each.{AnyNumber, AnyOutput, AnyInput, EachMaybe, EachPlace, EachStatement, EachOf, EachBranch, EachRoot}
+use Rattle.xc_wellformed.specs.Levels.{IsLow, IsLowPlace, levels, levels_of_all}
+use Rattle.xc_wellformed.specs.Exits.{LeavesIn, AllLeaveIn, BranchesLeaveIn, EachRootLeaves}
+use Rattle.xc_wellformed.specs.Parts as parts
+use Rattle.xc_wellformed.specs.Parts.{words_of, most_parts}
+use Rattle.xc_wellformed.proofs.Formed.{of_programs}
+use Rattle.xc_wellformed.proofs.FewRoots.{parts_are_few}
 use Rattle.xl_expr.specs.declared.plan.Plan.{Plan}
 use Rattle.xl_expr.specs.declared.plan.VarPlan.{VarPlan}
 use Rattle.xl_expr.specs.Measures.{nodes, nodes_of, nodes_at, depth, depth_of, depth_at}

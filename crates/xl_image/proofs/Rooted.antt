@@ -14,8 +14,8 @@ use Rattle.xc_kernel.specs.Calls.{CopiesCall}
 use Rattle.xc_kernel.specs.Roots.{is_placed, has_placed, action_has_placed, block_has_placed, in_block, branch_roots, numbered_roots, action_roots, block_roots, roots_by, roots_of, context_of}
 use Rattle.xc_kernel.specs.Copies.{calls_of, numbering, copy_of}
 use Rattle.xc_disjoint.specs.Checked.{IsChecked}
-use Rattle.xc_formed.proofs.RootCores.{IsOnACore, roots_are_on_cores}
-use Rattle.xc_formed.proofs.Walk.Arguments.{AllIn}
+use Rattle.xc_wellformed.proofs.RootCores.{IsOnACore, roots_are_on_cores}
+use Rattle.xc_wellformed.proofs.Walk.Arguments.{AllIn}
 use Rattle.xl_plan.proofs.Lists.{some_given, none_given}
 use Rattle.xl_image.specs.Images.{roots_on}
 use Rattle.xl_image.specs.Parts.{below, cores_of, has_root, is_some_root}

@@ -28,7 +28,7 @@ use Rattle.xc_kernel.specs.Copies.{calls_of, rooted, numbering, copy_of}
 use Rattle.xc_kernel.specs.Sound.{IsOfProgram}
 use Rattle.xc_disjoint.specs.Cores.{if_so, on_core}
 use Rattle.xc_disjoint.specs.Needs.{words_of_instance, words_of_variable}
-use Rattle.xc_formed.proofs.Merged.{none_merged}
+use Rattle.xc_wellformed.proofs.Merged.{none_merged}
 use Rattle.xl_plan.specs.Layout.{words_here}
 
 module _ (core : ℕ) where

@@ -30,12 +30,12 @@ use Rattle.xc_kernel.specs.Ports.{core_by, core_of_value, core_of}
 use Rattle.xc_kernel.specs.Scopes.{is_unsigned}
 use Rattle.xc_kernel.specs.Types.{operation_is_unsigned}
 use Rattle.xc_kernel.specs.Values.{Value, word, applied}
-use Rattle.xc_formed.specs.Stacks.{Frame, Stack, decl_by, declared_at, found, found_in, Resolves, after, outer}
-use Rattle.xc_formed.proofs.Outside.{Alike, alike_resolves, Among, declared_again, decl_of_item, outer_item}
-use Rattle.xc_formed.proofs.Resolved.{AllNew}
-use Rattle.xc_formed.proofs.Stacks.{resolves_both, scope_ends, quiet_split, quiet_skip, quiet_optional, quiet_expression, quiet_place}
+use Rattle.xc_wellformed.specs.Stacks.{Frame, Stack, decl_by, declared_at, found, found_in, Resolves, after, outer}
+use Rattle.xc_wellformed.proofs.Outside.{Alike, alike_resolves, Among, declared_again, decl_of_item, outer_item}
+use Rattle.xc_wellformed.proofs.Resolved.{AllNew}
+use Rattle.xc_wellformed.proofs.Stacks.{resolves_both, scope_ends, quiet_split, quiet_skip, quiet_optional, quiet_expression, quiet_place}
 use Rattle.xc_meaning.proofs.Recursion.Scopes as scopes
-use Rattle.xc_formed.proofs.Walk.Arguments.{AllIn, split}
+use Rattle.xc_wellformed.proofs.Walk.Arguments.{AllIn, split}
 
 and_both : (a b : Bool) → (a && b) ≡ true → (a ≡ true) × (b ≡ true)
 and_both true b e = (refl, e)

@@ -18,10 +18,10 @@ use Rattle.xc_kernel.specs.Programs.{ports}
 use Rattle.xc_kernel.specs.Ports.{port_at, port_use}
 use Rattle.xc_kernel.specs.Copies.{copy_of}
 use Rattle.xc_kernel.specs.Sound.{IsOfProgram, IsTyped}
-use Rattle.xc_formed.specs.Stacks.{Frame, outer}
-use Rattle.xc_formed.proofs.Outside.{Among, bottom}
-use Rattle.xc_formed.proofs.Resolved.{names_resolve, outer_differ}
-use Rattle.xc_formed.proofs.Walk.Arguments.{AllIn}
+use Rattle.xc_wellformed.specs.Stacks.{Frame, outer}
+use Rattle.xc_wellformed.proofs.Outside.{Among, bottom}
+use Rattle.xc_wellformed.proofs.Resolved.{names_resolve, outer_differ}
+use Rattle.xc_wellformed.proofs.Walk.Arguments.{AllIn}
 use Rattle.xl_plan.specs.Planned.{ports_on, IsNewPort, ArePortsApart}
 use Rattle.xl_plan.proofs.Lists.{some_given, none_given}
 use Rattle.xl_plan.proofs.PortPlaces.{IsFinePlace, PlaceValued, ports_valued, none_index, outer_not_index, fine_places, core_is}

@@ -3,7 +3,7 @@ use Rattle.std.proofs.Common.{◌≡◌, inl, ℕ, ◌+◌, ◌≤◌, List, Opt
 use Rattle.xc_kernel.specs.Plain as kernel
 use Rattle.xc_disjoint.specs.Checked.{IsChecked}
 use Rattle.xc_disjoint.specs.Cores.{last_core}
-use Rattle.xc_formed.specs.Cores.{IsOn}
+use Rattle.xc_wellformed.specs.Cores.{IsOn}
 use Rattle.xs_instr.specs.Resources.{name_of}
 use Rattle.xl_expr.specs.declared.plan.ResAt.{ResAt}
 use Rattle.xl_expr.specs.declared.plan.ResAt.TheVariants.{Fixed}

@@ -7,10 +7,10 @@ use Rattle.xc_apart.specs.Clashes.{changed, used}
 use Rattle.xc_disjoint.specs.Disjoint.{clash}
 use Rattle.xc_disjoint.specs.Rules.{apart}
 use Rattle.xc_disjoint.specs.Checked.{IsChecked}
-use Rattle.xc_formed.specs.Each.{AnyNumber, EachOf, EachRootOn}
-use Rattle.xc_formed.specs.Numbers.{NumbersInExpression, NumbersInPlace}
-use Rattle.xc_formed.specs.Cores.{IsOn, RootsKeepApart, OutputOn, InputOn, CoresAreOwn}
-use Rattle.xc_formed.proofs.Formed.{of_programs, cores_own}
+use Rattle.xc_wellformed.specs.Each.{AnyNumber, EachOf, EachRootOn}
+use Rattle.xc_wellformed.specs.Numbers.{NumbersInExpression, NumbersInPlace}
+use Rattle.xc_wellformed.specs.Cores.{IsOn, RootsKeepApart, OutputOn, InputOn, CoresAreOwn}
+use Rattle.xc_wellformed.proofs.Formed.{of_programs, cores_own}
 use Rattle.xl_plan.proofs.Lists.{some_given, none_given, contained_at}
 use Rattle.xl_plan.proofs.Used.{variable_used}
 

@@ -3,8 +3,8 @@ use Rattle.std.proofs.Common.{◌≡◌, ◌⊎◌, inl, inr, ⊎_elim, ℕ, Boo
 use Rattle.xc_kernel.specs.Plain as kernel
 use Rattle.xc_kernel.specs.Things as things
 use Rattle.xc_kernel.specs.Things.{Thing, variable, port, timer, by_change, by_channel, by_resource, by_expression, by_operands, by_place, by_target, by_some_target, by_some_expression, by_condition, by_output, by_input, by_statement, by_statements, by_cases, by_default, by_branches}
-use Rattle.xc_formed.specs.Each.{EachMaybe, EachPlace, EachCondition, EachOutput, EachInput, EachStatement, EachOf, EachCase, EachDefault, EachBranch}
-use Rattle.xc_formed.specs.Numbers.{NumbersInExpression, NumbersInOperands, NumbersInPlace}
+use Rattle.xc_wellformed.specs.Each.{EachMaybe, EachPlace, EachCondition, EachOutput, EachInput, EachStatement, EachOf, EachCase, EachDefault, EachBranch}
+use Rattle.xc_wellformed.specs.Numbers.{NumbersInExpression, NumbersInOperands, NumbersInPlace}
 
 or_true : (a b : Bool) → (a || b) ≡ true → (a ≡ true) ⊎ (b ≡ true)
 or_true true b e = inl refl

@@ -9,11 +9,11 @@ use Rattle.xc_kernel.specs.Uses as uses
 use Rattle.xc_kernel.specs.Uses.{Use}
 use Rattle.xc_disjoint.specs.Checked.{IsChecked}
 use Rattle.xc_disjoint.specs.Rules.{elsewhere}
-use Rattle.xc_formed.specs.Each.{AnyExpression, AnyPlace, AnyNumber, EachMaybe, EachPlace, EachCondition, EachInput, EachStatement, EachOf, EachCase, EachDefault, EachBranch, EachRoot}
-use Rattle.xc_formed.specs.Numbers.{NumbersInExpression, NumbersInPlace}
-use Rattle.xc_formed.specs.Cores.{IsOn, TimerOn, ResourceOn, OutputOn, InputOn}
-use Rattle.xc_formed.specs.Transfers.{can_drive, can_read, IsPort, OutputGoes, InputComes, GoesOut, ComesIn}
-use Rattle.xc_formed.proofs.Formed.{of_programs}
+use Rattle.xc_wellformed.specs.Each.{AnyExpression, AnyPlace, AnyNumber, EachMaybe, EachPlace, EachCondition, EachInput, EachStatement, EachOf, EachCase, EachDefault, EachBranch, EachRoot}
+use Rattle.xc_wellformed.specs.Numbers.{NumbersInExpression, NumbersInPlace}
+use Rattle.xc_wellformed.specs.Cores.{IsOn, TimerOn, ResourceOn, OutputOn, InputOn}
+use Rattle.xc_wellformed.specs.Transfers.{can_drive, can_read, IsPort, OutputGoes, InputComes, GoesOut, ComesIn}
+use Rattle.xc_wellformed.proofs.Formed.{of_programs}
 use Rattle.xl_plan.proofs.Lists.{some_given, none_given, contained_at, contains_at}
 use Rattle.xl_plan.proofs.Used.{resource_used}
 use Rattle.xl_plan.proofs.Roots.{own_at}

@@ -5,7 +5,7 @@ use Rattle.xc_kernel.specs.declared.kernel.PortUse.{PortUse}
 use Rattle.xc_kernel.specs.declared.kernel.Var.{Var}
 use Rattle.xc_kernel.specs.Plain as kernel
 use Rattle.xc_kernel.specs.Things.{variable, port, timer, by_statements}
-use Rattle.xc_formed.specs.Cores.{IsOn}
+use Rattle.xc_wellformed.specs.Cores.{IsOn}
 use Rattle.xs_instr.specs.OwnSteps.{IsApart}
 use Rattle.xl_expr.specs.declared.plan.EndPlaces.{EndPlaces}
 use Rattle.xl_expr.specs.declared.plan.ResAt.{ResAt}

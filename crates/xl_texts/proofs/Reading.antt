@@ -6,7 +6,7 @@ use Rattle.xc_tree.specs.Lexes.{Lexes}
 use Rattle.xc_tree.specs.Plain.{Item}
 use Rattle.xc_tree.specs.Programs.{Rise}
 use Rattle.xc_kernel.specs.Sound.{IsOfText}
-use Rattle.xc_formed.proofs.Texts.{texts_rise}
+use Rattle.xc_wellformed.proofs.Texts.{texts_rise}
 
 pub of_text : {text : List ℕ} {toks : List Tok} {program : List Item} → Lexes text toks → Rise toks → length toks < 2 ^ 32 → IsProgram toks program → IsOfText program
 of_text {text} {toks} {program} lexes rising few derived = record {

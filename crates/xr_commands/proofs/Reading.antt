@@ -19,7 +19,7 @@ use Rattle.xc_tree.specs.Trees.{program_of}
 use Rattle.xc_tree.specs.Types.Named.{IsNamed, named_of}
 use Rattle.xc_tree.specs.Types.Sites.{unsigned_at}
 use Rattle.xc_disjoint.specs.Rules.{Breaks as BreaksInNeeds}
-use Rattle.xc_formed.proofs.Texts.{texts_rise}
+use Rattle.xc_wellformed.proofs.Texts.{texts_rise}
 use Rattle.xc_kernel.specs.Copies.{Copies}
 use Rattle.xc_kernel.specs.Plain.{Kernel}
 use Rattle.xc_kernel.specs.Size.{Breaks509, IsTooLarge}

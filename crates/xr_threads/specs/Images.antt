@@ -8,8 +8,8 @@ use Rattle.xs_instr.specs.Valid.{Valid}
 use Rattle.xc_kernel.specs.declared.kernel.PortUse.{PortUse}
 use Rattle.xc_kernel.specs.Plain as kernel
 use Rattle.xc_disjoint.specs.Needs.{threads_on}
-use Rattle.xc_laws.specs.Lawful.{Obeys}
-use Rattle.xc_laws.specs.Needs.{needed_on}
+use Rattle.xc_invariants.specs.Lawful.{Obeys}
+use Rattle.xc_invariants.specs.Needs.{needed_on}
 use Rattle.xc_meaning.specs.Counts.KernelCounts.{words_in}
 use Rattle.xc_meaning.specs.Runs.{kernel_start}
 use Rattle.xc_meaning.specs.States.Branches.{Branch}

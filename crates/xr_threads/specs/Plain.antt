@@ -1,9 +1,9 @@
 -- Programs without transactions: no branch has one to do, so none stands in one.
 use Rattle.std.specs.Prelude.{◌≡◌, ℕ, List, [], Some, slice_get}
 use Rattle.xc_kernel.specs.Plain as kernel
-use Rattle.xc_laws.specs.Each.{EachItem}
-use Rattle.xc_laws.specs.Every.{EveryItem}
-use Rattle.xc_laws.specs.Rules.{AnyPar, AnyThing}
+use Rattle.xc_invariants.specs.Each.{EachItem}
+use Rattle.xc_invariants.specs.Every.{EveryItem}
+use Rattle.xc_invariants.specs.Rules.{AnyPar, AnyThing}
 use Rattle.xc_meaning.specs.States.Branches.{Branch}
 
 abbrev pub NoTransaction : ℕ → kernel.Statements → Type 0

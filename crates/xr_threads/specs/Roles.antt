@@ -7,7 +7,7 @@ use Rattle.xc_meaning.specs.States.Branches.{Branch, waits}
 use Rattle.xc_meaning.specs.States.Items.{Item, does}
 use Rattle.xc_meaning.specs.States.Worlds.{World}
 use Rattle.xc_disjoint.specs.Needs.{threads_on}
-use Rattle.xc_laws.specs.Needs.{Budgeted}
+use Rattle.xc_invariants.specs.Needs.{Budgeted}
 use Rattle.xl_par.specs.Hands.{Hand, IsAmong}
 use Rattle.xl_plan.specs.Layout.{temporary_of}
 use Rattle.xr_threads.specs.Fits.{FitOn}

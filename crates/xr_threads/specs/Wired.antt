@@ -4,7 +4,7 @@ use Rattle.xs_instr.specs.declared.state.CoreState.{CoreState}
 use Rattle.xs_instr.specs.Machine.{Machine, parts_in}
 use Rattle.xc_kernel.specs.Plain as kernel
 use Rattle.xc_kernel.specs.Things.{channel}
-use Rattle.xc_laws.specs.Tree.{Above}
+use Rattle.xc_invariants.specs.Tree.{Above}
 use Rattle.xc_meaning.specs.States.Branches.{Branch, side_of}
 use Rattle.xc_meaning.specs.States.Channels.{Inboxes, Parcel, Side, no_parcels, other_side}
 use Rattle.xc_meaning.specs.States.Worlds.{World}

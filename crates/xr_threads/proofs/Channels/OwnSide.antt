@@ -3,16 +3,16 @@ use Rattle.std.proofs.Common.{append-nil, ◌≡◌, ◌≢◌, ◌⊎◌, inl, 
 use Rattle.xs_instr.specs.declared.image.Stim.{Stim}
 use Rattle.xc_kernel.specs.Plain as kernel
 use Rattle.xc_kernel.specs.Things.{channel}
-use Rattle.xc_laws.specs.Every.{AllItems}
-use Rattle.xc_laws.specs.Lawful.{Lawful}
-use Rattle.xc_laws.specs.Sided.{Differ}
-use Rattle.xc_laws.specs.Tree.{Above, IsChild, IsWaiting, directly}
-use Rattle.xc_laws.proofs.Always.{branches_stay, laws_kept}
-use Rattle.xc_laws.proofs.Lookups.{Behind, at_itself, behind, front_of, itself, new, next_of, there, within}
-use Rattle.xc_laws.proofs.Pairs.{done_at}
-use Rattle.xc_laws.proofs.Sides.{sides_stay, stands_in}
-use Rattle.xc_laws.proofs.Trees.{Change, above_child, above_joined, above_stays, above_waits, change, made_length, opens, quiet, running_waits_not}
-use Rattle.xc_laws.proofs.Uses.{IsKernels, becomes_uses, made_uses, no_text}
+use Rattle.xc_invariants.specs.Every.{AllItems}
+use Rattle.xc_invariants.specs.Lawful.{Lawful}
+use Rattle.xc_invariants.specs.Sided.{Differ}
+use Rattle.xc_invariants.specs.Tree.{Above, IsChild, IsWaiting, directly}
+use Rattle.xc_invariants.proofs.Always.{branches_stay, laws_kept}
+use Rattle.xc_invariants.proofs.Lookups.{Behind, at_itself, behind, front_of, itself, new, next_of, there, within}
+use Rattle.xc_invariants.proofs.Pairs.{done_at}
+use Rattle.xc_invariants.proofs.Sides.{sides_stay, stands_in}
+use Rattle.xc_invariants.proofs.Trees.{Change, above_child, above_joined, above_stays, above_waits, change, made_length, opens, quiet, running_waits_not}
+use Rattle.xc_invariants.proofs.Uses.{IsKernels, becomes_uses, made_uses, no_text}
 use Rattle.xc_meaning.proofs.Basics.{none_given, same_or_not, some_given}
 use Rattle.xc_meaning.proofs.Moved.{moved}
 use Rattle.xc_meaning.specs.Outline.{Becomes, Moved, ends_it, enters, errs, exits, goes, joined, makes, stepped, ticked}

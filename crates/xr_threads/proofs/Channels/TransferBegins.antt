@@ -4,7 +4,7 @@ use Rattle.std.specs.Prelude.{Bool, false, slice_get}
 use Rattle.std.proofs.lemmas.Bool.{cases_eq}
 use Rattle.std.proofs.lemmas.Option.{none-some, same_Some}
 use Rattle.xc_kernel.specs.Things.{channel}
-use Rattle.xc_laws.specs.Tree.{IsWaiting}
+use Rattle.xc_invariants.specs.Tree.{IsWaiting}
 use Rattle.xc_meaning.specs.States.Branches.{Branch, runs, side_of}
 use Rattle.xc_meaning.specs.States.Channels.{Side, first, second, other_side}
 use Rattle.xc_meaning.specs.Uses.{by_items}

@@ -14,9 +14,9 @@ use Rattle.xc_kernel.specs.Things.{Thing, variable, port, channel, by_read, by_c
 use Rattle.xc_meaning.specs.Counts.KernelCounts.{of_statement, greatest_held, greatest_in, greatest_in_branches, words_in}
 use Rattle.xc_meaning.proofs.Basics.{none_given, same_number, or_left, or_right}
 use Rattle.xc_disjoint.specs.Checked.{IsChecked}
-use Rattle.xc_formed.specs.Each.{AnyExpression, AnyPlace, AnyNumber, AnyOutput, AnyInput, EachBranch, EachMaybe, EachPlace, EachStatement, EachOf}
-use Rattle.xc_formed.specs.Numbers.{IsVariable, IsListed, NumbersInExpression, NumbersInOperands, NumbersInPlace}
-use Rattle.xc_formed.specs.Transfers.{GoesOut, ComesIn, InputComes, OutputGoes}
+use Rattle.xc_wellformed.specs.Each.{AnyExpression, AnyPlace, AnyNumber, AnyOutput, AnyInput, EachBranch, EachMaybe, EachPlace, EachStatement, EachOf}
+use Rattle.xc_wellformed.specs.Numbers.{IsVariable, IsListed, NumbersInExpression, NumbersInOperands, NumbersInPlace}
+use Rattle.xc_wellformed.specs.Transfers.{GoesOut, ComesIn, InputComes, OutputGoes}
 use Rattle.xl_expr.specs.declared.plan.VarPlan.{VarPlan}
 use Rattle.xl_expr.specs.Frames.{HasVars, HaveVars, HasPlace, variable_of}
 use Rattle.xl_expr.specs.Plans.{var_in}

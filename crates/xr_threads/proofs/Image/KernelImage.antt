@@ -13,9 +13,9 @@ use Rattle.xc_meaning.specs.States.Items.{ends, todo}
 use Rattle.xc_disjoint.specs.Checked.{IsChecked}
 use Rattle.xc_disjoint.specs.Needs.{threads_on}
 use Rattle.xc_disjoint.specs.Rules.{needs, threads}
-use Rattle.xc_formed.specs.Each.{EachOf, EachRoot}
-use Rattle.xc_formed.proofs.Formed.{of_programs}
-use Rattle.xc_laws.proofs.Checked.{checked_obey}
+use Rattle.xc_wellformed.specs.Each.{EachOf, EachRoot}
+use Rattle.xc_wellformed.proofs.Formed.{of_programs}
+use Rattle.xc_invariants.proofs.Checked.{checked_obey}
 use Rattle.xl_expr.specs.declared.plan.Plan.{Plan}
 use Rattle.xl_image.specs.Images.{IsImage, RootAt, root_sides, thread_of}
 use Rattle.xl_image.specs.Roots.{KernelIsBuilt}

@@ -34,8 +34,8 @@ use Rattle.xc_kernel.specs.Roots.{action_roots, block_has_placed, block_roots, b
 use Rattle.xc_kernel.specs.Numbering.{Numbering}
 use Rattle.xc_kernel.specs.Copies.{calls_of, copy_of, numbering, rooted}
 use Rattle.xc_kernel.specs.Sound.{IsOfProgram}
-use Rattle.xc_formed.proofs.Merged.{none_merged}
-use Rattle.xc_formed.proofs.Walk.Arguments.{AllIn, both, split}
+use Rattle.xc_wellformed.proofs.Merged.{none_merged}
+use Rattle.xc_wellformed.proofs.Walk.Arguments.{AllIn, both, split}
 use Rattle.xl_plan.proofs.Lists.{some_given, none_given}
 
 -- an array of the text is no shorter than 1

@@ -9,9 +9,9 @@ use Rattle.xs_instr.specs.declared.state.Thread.{Thread}
 use Rattle.xc_meaning.specs.States.Branches.{Branch, Mode, runs, waits, ended, erred}
 use Rattle.xc_meaning.specs.States.Worlds.{World}
 use Rattle.xc_disjoint.specs.Needs.{threads_on}
-use Rattle.xc_laws.specs.Lawful.{Lawful}
-use Rattle.xc_laws.specs.Needs.{needed_on}
-use Rattle.xc_laws.specs.Tree.{IsWaiting}
+use Rattle.xc_invariants.specs.Lawful.{Lawful}
+use Rattle.xc_invariants.specs.Needs.{needed_on}
+use Rattle.xc_invariants.specs.Tree.{IsWaiting}
 use Rattle.xl_par.specs.Hands.{Hand}
 use Rattle.xr_match.specs.Lives.{Life, Watched}
 use Rattle.xr_match.specs.Meanings.{of_kernel}

@@ -9,7 +9,7 @@ use Rattle.xs_instr.specs.declared.state.Thread.{Thread}
 use Rattle.xs_instr.specs.declared.trace.Record.{Record}
 use Rattle.xs_instr.specs.Machine.{noted, no_links}
 use Rattle.xc_disjoint.specs.Needs.{threads_on}
-use Rattle.xc_laws.specs.Tree.{IsWaiting}
+use Rattle.xc_invariants.specs.Tree.{IsWaiting}
 use Rattle.xc_meaning.specs.Counts.Families.{steps_of}
 use Rattle.xc_meaning.specs.Runs.{acts_all}
 use Rattle.xc_meaning.specs.States.Branches.{Branch, runs, waits, ended, has_ended}

@@ -12,7 +12,7 @@ use Rattle.xs_instr.specs.Pool.{all_joined, all_wait, is_tied, joined_by, some_t
 use Rattle.xs_instr.specs.Rows.{goes_on as row_goes_on, put_syncs, put_threads}
 use Rattle.xs_instr.specs.Slot.{slot}
 use Rattle.xc_disjoint.specs.Needs.{threads_on}
-use Rattle.xc_laws.specs.Tree.{IsChild, IsForest}
+use Rattle.xc_invariants.specs.Tree.{IsChild, IsForest}
 use Rattle.xc_meaning.specs.Counts.Families.{counted_for, family_of_branch, one_if, steps_of}
 use Rattle.xc_meaning.specs.Counts.KernelCounts.{greatest_count, kernel_bound}
 use Rattle.xc_meaning.specs.Runs.{acts, acts_all}

@@ -14,8 +14,8 @@ use Rattle.xc_meaning.specs.States.Items.{Item, does}
 use Rattle.xc_meaning.specs.States.Worlds.{World}
 use Rattle.xc_meaning.proofs.Basics.{some_given, none_given}
 use Rattle.xc_disjoint.specs.Needs.{threads_on}
-use Rattle.xc_laws.specs.Needs.{AreOnce, IsIn, TakesOn, branches_in, takes, total_of}
-use Rattle.xc_laws.proofs.Always.{budgets_fit, budgets_suffice}
+use Rattle.xc_invariants.specs.Needs.{AreOnce, IsIn, TakesOn, branches_in, takes, total_of}
+use Rattle.xc_invariants.proofs.Always.{budgets_fit, budgets_suffice}
 use Rattle.xl_par.specs.Hands.{Hand, IsAmong, one_if, unused_in}
 use Rattle.xr_threads.specs.Parents.{Parent, sync_before, syncs_of}
 use Rattle.xr_threads.specs.Roles.{HandFits, IsParent, Role, Roles, empty, got_by, gives_back, opens, unused, used_by}

@@ -5,7 +5,7 @@ use Rattle.std.proofs.lemmas.Bool.{cases_eq, or_left, or_right}
 use Rattle.xs_instr.specs.declared.state.CoreState.{CoreState}
 use Rattle.xc_kernel.specs.Plain as kernel
 use Rattle.xc_kernel.specs.Things.{Thing, by_branches, by_statement, by_statements}
-use Rattle.xc_laws.specs.Rules.{code_at}
+use Rattle.xc_invariants.specs.Rules.{code_at}
 use Rattle.xc_meaning.specs.States.Branches.{Branch}
 use Rattle.xc_meaning.specs.Settings.Par.{Begun, children}
 use Rattle.xc_meaning.specs.Settings.Setting.{Setting as Step'}

@@ -7,7 +7,7 @@ use Rattle.xs_instr.specs.Did.{Made}
 use Rattle.xs_instr.specs.Machine.{and_then}
 use Rattle.xs_instr.specs.Pool.{all_wait}
 use Rattle.xs_instr.specs.Slot.{slot}
-use Rattle.xc_laws.specs.Tree.{IsForest}
+use Rattle.xc_invariants.specs.Tree.{IsForest}
 use Rattle.xc_meaning.specs.Quiet.{IsQuiet, is_idle}
 use Rattle.xc_meaning.specs.Runs.{acts, goes, goes_by, selects, selects_by, step_of}
 use Rattle.xc_meaning.specs.Settings.Par.{all_done, is_done}

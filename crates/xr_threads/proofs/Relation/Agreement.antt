@@ -7,7 +7,7 @@ use Rattle.xs_instr.specs.declared.state.CoreState.{CoreState}
 use Rattle.xs_instr.specs.declared.state.Token.{Token}
 use Rattle.xs_instr.specs.Machine.{Machine, Tick, and_then, does, no_links, runs, tick_at, tick_by}
 use Rattle.xs_instr.specs.Slot.{last_clock, ticked}
-use Rattle.xc_laws.specs.Tree.{IsChild}
+use Rattle.xc_invariants.specs.Tree.{IsChild}
 use Rattle.xc_meaning.specs.Quiet.{IsQuiet}
 use Rattle.xc_meaning.specs.Runs.{acts}
 use Rattle.xc_meaning.specs.Settings.Time.{ticks}

@@ -3,8 +3,8 @@ use Rattle.std.proofs.Common.{◌≡◌, inl, inr, ℕ, zero, suc, ◌+◌, ◌<
 use Rattle.std.specs.Prelude.{slice_get}
 use Rattle.xc_meaning.specs.States.Branches.{Branch, waits}
 use Rattle.xc_meaning.specs.States.Worlds.{World}
-use Rattle.xc_laws.specs.Lawful.{Lawful}
-use Rattle.xc_laws.specs.Tree.{IsChild, IsPresent, root, child}
+use Rattle.xc_invariants.specs.Lawful.{Lawful}
+use Rattle.xc_invariants.specs.Tree.{IsChild, IsPresent, root, child}
 use Rattle.xl_par.specs.Hands.{Hand}
 use Rattle.xr_threads.specs.Parents.{Parent}
 use Rattle.xr_threads.specs.Roles.{AreRoles, IsParent, ParentsWait, ParentWaits, Roles, outermost, used_by}

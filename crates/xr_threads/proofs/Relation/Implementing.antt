@@ -3,8 +3,8 @@ use Rattle.xs_instr.specs.declared.image.Image.{Image}
 use Rattle.xs_instr.specs.Valid.{Valid}
 use Rattle.xc_kernel.specs.Plain as kernel
 use Rattle.xc_disjoint.specs.Checked.{IsChecked}
-use Rattle.xc_formed.proofs.ParWidth.{pars_are_narrow}
-use Rattle.xc_laws.proofs.TextFollows.{exits_are_met}
+use Rattle.xc_wellformed.proofs.ParWidth.{pars_are_narrow}
+use Rattle.xc_invariants.proofs.TextFollows.{exits_are_met}
 use Rattle.xl_image.specs.Images.{IsImage}
 use Rattle.xl_image.specs.Roots.{KernelIsBuilt}
 use Rattle.xr_match.specs.Implements.{Implements, ImplementsWholly}

@@ -9,9 +9,9 @@ use Rattle.xc_meaning.specs.Runs.{acts, acts_all}
 use Rattle.xc_meaning.specs.States.Branches.{Branch, waits}
 use Rattle.xc_meaning.specs.States.Worlds.{Action, World}
 use Rattle.xc_meaning.proofs.Basics.{some_given, none_given}
-use Rattle.xc_laws.specs.Lawful.{Lawful}
-use Rattle.xc_laws.specs.Needs.{sum_from}
-use Rattle.xc_laws.proofs.Always.{branches_stay, budgets_stay, laws_kept}
+use Rattle.xc_invariants.specs.Lawful.{Lawful}
+use Rattle.xc_invariants.specs.Needs.{sum_from}
+use Rattle.xc_invariants.proofs.Always.{branches_stay, budgets_stay, laws_kept}
 use Rattle.xr_threads.specs.Roles.{HasReserves, Roles, used_by}
 use Rattle.xr_threads.specs.Runners.{Setting, Runner}
 use Rattle.xr_threads.specs.ThreadViews.{giving_back}

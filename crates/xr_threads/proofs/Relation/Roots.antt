@@ -7,8 +7,8 @@ use Rattle.xc_meaning.specs.States.Items.{ends, todo}
 use Rattle.xc_disjoint.specs.Cores.{if_so, on_core}
 use Rattle.xc_disjoint.specs.Needs.{threads_of_root, threads_on}
 use Rattle.xc_disjoint.specs.Threads as threads
-use Rattle.xc_laws.specs.Needs.{needed_on}
-use Rattle.xc_laws.proofs.Needs.{statements_least}
+use Rattle.xc_invariants.specs.Needs.{needed_on}
+use Rattle.xc_invariants.proofs.Needs.{statements_least}
 use Rattle.xl_par.specs.Hands.{Hand}
 use Rattle.xl_image.specs.Images.{core_of_root, root_sides, roots_on, thread_of}
 use Rattle.xl_plan.specs.Layout.{temporary_of}

@@ -5,8 +5,8 @@ use Rattle.xc_kernel.specs.declared.statement.KRes.{KRes}
 use Rattle.xc_kernel.specs.declared.statement.KRes.TheVariants.{Port, Timer, Chan}
 use Rattle.xc_kernel.specs.Plain as kernel
 use Rattle.xc_kernel.specs.Things.{by_resource, channel}
-use Rattle.xc_laws.proofs.Always.{each_has_side}
-use Rattle.xc_laws.specs.Lawful.{Lawful, is_on}
+use Rattle.xc_invariants.proofs.Always.{each_has_side}
+use Rattle.xc_invariants.specs.Lawful.{Lawful, is_on}
 use Rattle.xc_meaning.specs.States.Branches.{Branch, side_of}
 use Rattle.xc_meaning.specs.States.Channels.{Side}
 use Rattle.xc_meaning.specs.States.Items.{Item, awaits, chooses, does, ends, fixed, mark, says, stamps, stores, transaction_end}

@@ -2,7 +2,7 @@
 use Rattle.std.proofs.Common.{◌≡◌, ◌≢◌, ℕ, ◌<◌, List, [], ◌∷◌, Some, inl, inr, refl, sym, ap, ◌∙◌, arith}
 use Rattle.std.specs.Prelude.{slice_get}
 use Rattle.std.proofs.lemmas.Option.{same_Some}
-use Rattle.xc_laws.specs.Tree.{IsForest}
+use Rattle.xc_invariants.specs.Tree.{IsForest}
 use Rattle.xc_meaning.specs.States.Branches.{Branch, runs, waits}
 use Rattle.xc_meaning.specs.States.Worlds.{World}
 use Rattle.xl_par.specs.Hands.{IsAmong}

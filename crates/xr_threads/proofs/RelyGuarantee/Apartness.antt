@@ -15,10 +15,10 @@ use Rattle.xc_meaning.specs.States.Worlds.{World}
 use Rattle.xc_meaning.proofs.Basics.{or_cases}
 use Rattle.xc_apart.specs.Clashes.{changed, of_port, of_timer}
 use Rattle.xc_disjoint.specs.Needs.{threads_on}
-use Rattle.xc_laws.specs.Lawful.{Lawful}
-use Rattle.xc_laws.specs.Rules.{AreApart}
-use Rattle.xc_laws.specs.Sided.{Differ}
-use Rattle.xc_laws.proofs.Always.{none_clash, one_on_each_side}
+use Rattle.xc_invariants.specs.Lawful.{Lawful}
+use Rattle.xc_invariants.specs.Rules.{AreApart}
+use Rattle.xc_invariants.specs.Sided.{Differ}
+use Rattle.xc_invariants.proofs.Always.{none_clash, one_on_each_side}
 use Rattle.xl_expr.specs.declared.plan.VarPlan.{VarPlan}
 use Rattle.xl_expr.specs.Frames.{IsNear}
 use Rattle.xl_par.specs.Hands.{Hand}

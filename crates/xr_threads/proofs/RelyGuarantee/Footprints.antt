@@ -10,7 +10,7 @@ use Rattle.xc_kernel.specs.declared.statement.KRes.{KRes}
 use Rattle.xc_kernel.specs.declared.statement.KRes.TheVariants.{Port, Timer, Chan}
 use Rattle.xc_kernel.specs.Plain as kernel
 use Rattle.xc_kernel.specs.Things.{Thing, variable, change, port, timer, channel, by_read, by_change, by_resource, by_expression, by_operands, by_place, by_target, by_some_target, by_some_expression, by_condition, by_output, by_input, by_statement, by_statements, by_case, by_cases, by_default, by_branch, by_branches}
-use Rattle.xc_laws.specs.Rules.{code_at}
+use Rattle.xc_invariants.specs.Rules.{code_at}
 use Rattle.xc_meaning.specs.States.Items.{Body, of_kernel, of_text, Choice, Item, does, says, stores, stamps, mark, awaits, transaction_end, chooses, fixed, ends, todo}
 use Rattle.xc_meaning.specs.Uses.{by_body, by_choices, by_item, by_items, by_some_body}
 use Rattle.xc_meaning.proofs.Basics.{none_given, or_left, or_right, same_number, some_given}

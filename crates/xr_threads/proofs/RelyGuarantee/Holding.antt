@@ -9,10 +9,10 @@ use Rattle.xc_apart.specs.Clashes.{of_port, used}
 use Rattle.xc_kernel.specs.declared.kernel.PortUse.{PortUse}
 use Rattle.xc_kernel.specs.Eval.{Store, words_of}
 use Rattle.xc_kernel.specs.Things.{change, port, variable}
-use Rattle.xc_laws.specs.Lawful.{Lawful}
-use Rattle.xc_laws.specs.Rules.{AreApart}
-use Rattle.xc_laws.specs.Tree.{Above, IsChild, IsWaiting, directly, further}
-use Rattle.xc_laws.proofs.Trees.{above_first, above_waits, waiting_is}
+use Rattle.xc_invariants.specs.Lawful.{Lawful}
+use Rattle.xc_invariants.specs.Rules.{AreApart}
+use Rattle.xc_invariants.specs.Tree.{Above, IsChild, IsWaiting, directly, further}
+use Rattle.xc_invariants.proofs.Trees.{above_first, above_waits, waiting_is}
 use Rattle.xc_meaning.specs.States.Branches.{Branch, Mode, runs, waits, ended, erred}
 use Rattle.xc_meaning.specs.States.Worlds.{World}
 use Rattle.xc_meaning.specs.Uses.{by_items}

@@ -3,11 +3,11 @@ use Rattle.std.proofs.Common.{append-nil, true, ◌≡◌, ℕ, IsTrue, List, []
 use Rattle.xs_instr.specs.declared.image.Stim.{Stim}
 use Rattle.xc_kernel.specs.Plain as kernel
 use Rattle.xc_kernel.specs.Things.{Thing}
-use Rattle.xc_laws.specs.Each.{EachItem}
-use Rattle.xc_laws.specs.Every.{AllItems}
-use Rattle.xc_laws.specs.Lawful.{KernelsAt, Lawful}
-use Rattle.xc_laws.proofs.Lookups.{Behind, behind, itself, new, there, within}
-use Rattle.xc_laws.proofs.Uses.{IsKernels, becomes_uses, no_text}
+use Rattle.xc_invariants.specs.Each.{EachItem}
+use Rattle.xc_invariants.specs.Every.{AllItems}
+use Rattle.xc_invariants.specs.Lawful.{KernelsAt, Lawful}
+use Rattle.xc_invariants.proofs.Lookups.{Behind, behind, itself, new, there, within}
+use Rattle.xc_invariants.proofs.Uses.{IsKernels, becomes_uses, no_text}
 use Rattle.xc_meaning.specs.Outline.{Becomes, Moved, joined, stepped, ticked}
 use Rattle.xc_meaning.specs.Runs.{acts, step_of}
 use Rattle.xc_meaning.specs.States.Branches.{Branch, runs}

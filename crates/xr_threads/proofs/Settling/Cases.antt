@@ -7,8 +7,8 @@ use Rattle.xw_words.specs.declared.pos.Pos.{Pos}
 use Rattle.xs_instr.specs.declared.state.Mode.TheVariants.{Running}
 use Rattle.xc_disjoint.specs.Needs.{threads_on}
 use Rattle.xc_kernel.specs.Plain as kernel
-use Rattle.xc_laws.proofs.Always.{laws_kept}
-use Rattle.xc_laws.specs.Lawful.{Lawful}
+use Rattle.xc_invariants.proofs.Always.{laws_kept}
+use Rattle.xc_invariants.specs.Lawful.{Lawful}
 use Rattle.xc_meaning.specs.Counts.KernelCounts.{kernel_bound}
 use Rattle.xc_meaning.specs.Runs.{acts, acts_all}
 use Rattle.xc_meaning.specs.States.Branches.{Branch, ended, runs}

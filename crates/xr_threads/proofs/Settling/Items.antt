@@ -9,7 +9,7 @@ use Rattle.xs_instr.specs.declared.state.Regs.{Regs}
 use Rattle.xs_instr.specs.Machine.{and_then}
 use Rattle.xc_kernel.specs.Plain as kernel
 use Rattle.xc_kernel.specs.Things.{Thing, by_statement, by_statements, variable, port}
-use Rattle.xc_laws.specs.Tree.{IsForest}
+use Rattle.xc_invariants.specs.Tree.{IsForest}
 use Rattle.xc_meaning.specs.Runs.{acts, acts_all, goes, goes_by, step_of}
 use Rattle.xc_meaning.specs.Settings.Par.{all_done, is_done, joins}
 use Rattle.xc_meaning.specs.Settings.Setting.{becomes}

@@ -6,7 +6,7 @@ use Rattle.xs_instr.specs.Resources.{is_num}
 use Rattle.xs_instr.specs.declared.state.CoreState.{CoreState}
 use Rattle.xs_instr.specs.declared.state.Mode.TheVariants.{Running}
 use Rattle.xc_kernel.specs.Plain as kernel
-use Rattle.xc_laws.specs.Needs.{total_of}
+use Rattle.xc_invariants.specs.Needs.{total_of}
 use Rattle.xc_meaning.specs.Counts.KernelCounts.{branch_count, kernel_bound}
 use Rattle.xc_meaning.specs.States.Branches.{Branch, ended, erred, runs}
 use Rattle.xc_meaning.specs.States.Items.{Item, awaits, chooses, does, ends, fixed, mark, says, stamps, stores, transaction_end}

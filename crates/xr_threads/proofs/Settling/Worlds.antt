@@ -6,9 +6,9 @@ use Rattle.std.specs.Prelude.{true, false, ◌&&◌, nat_eq, not, slice_get, sli
 use Rattle.xw_words.specs.declared.pos.Pos.{Pos}
 use Rattle.xc_kernel.specs.Plain as kernel
 use Rattle.xc_kernel.specs.Things.{variable}
-use Rattle.xc_laws.proofs.Lookups.{Behind, at_itself, at_other, behind, itself, new, there}
-use Rattle.xc_laws.specs.Lawful.{Lawful}
-use Rattle.xc_laws.specs.Tree.{IsChild}
+use Rattle.xc_invariants.proofs.Lookups.{Behind, at_itself, at_other, behind, itself, new, there}
+use Rattle.xc_invariants.specs.Lawful.{Lawful}
+use Rattle.xc_invariants.specs.Tree.{IsChild}
 use Rattle.xc_meaning.specs.Runs.{acts, acts_all}
 use Rattle.xc_meaning.specs.States.Branches.{Branch, Mode, has_ended, runs, waits}
 use Rattle.xc_meaning.specs.States.Items.{Item, does}

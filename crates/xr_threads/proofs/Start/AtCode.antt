@@ -9,7 +9,7 @@ use Rattle.xs_instr.specs.declared.state.CoreState.{CoreState}
 use Rattle.xs_instr.specs.Machine.{boot_port, boot_threads, parts_in, root_thread, unused_thread}
 use Rattle.xc_kernel.specs.Eval.{words_of}
 use Rattle.xc_disjoint.specs.Needs.{threads_on}
-use Rattle.xc_laws.proofs.Always.{laws_begin}
+use Rattle.xc_invariants.proofs.Always.{laws_begin}
 use Rattle.xc_meaning.specs.Counts.KernelCounts.{greatest_count, kernel_bound, words_in}
 use Rattle.xc_meaning.specs.Runs.{kernel_start}
 use Rattle.xc_meaning.specs.States.Branches.{Branch, ended, runs}

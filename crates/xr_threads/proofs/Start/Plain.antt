@@ -4,10 +4,10 @@ use Rattle.std.proofs.lemmas.Option.{same_Some}
 use Rattle.xc_kernel.specs.declared.statement.KRes.{KRes}
 use Rattle.xc_kernel.specs.declared.statement.KRes.TheVariants.{Port, Timer, Chan}
 use Rattle.xc_kernel.specs.Plain as kernel
-use Rattle.xc_laws.specs.Every.{AllItems, EveryBranches, EveryCondition, EveryExpression, EveryInput, EveryItem, EveryOperands, EveryOutput, EveryPlace, EveryResource, EverySomeExpression, EverySomeTarget, EveryStatement, EveryStatements, EveryTarget}
-use Rattle.xc_laws.specs.Rules.{AnyPar, AnyThing}
-use Rattle.xc_laws.proofs.EveryItem.{every_statements}
-use Rattle.xc_laws.proofs.Inherited.{all_todo}
+use Rattle.xc_invariants.specs.Every.{AllItems, EveryBranches, EveryCondition, EveryExpression, EveryInput, EveryItem, EveryOperands, EveryOutput, EveryPlace, EveryResource, EverySomeExpression, EverySomeTarget, EveryStatement, EveryStatements, EveryTarget}
+use Rattle.xc_invariants.specs.Rules.{AnyPar, AnyThing}
+use Rattle.xc_invariants.proofs.EveryItem.{every_statements}
+use Rattle.xc_invariants.proofs.Inherited.{all_todo}
 use Rattle.xc_meaning.specs.Runs.{kernel_root, kernel_start, no_side, root_branches}
 use Rattle.xc_meaning.specs.States.Branches.{Branch}
 use Rattle.xc_meaning.specs.States.Channels.{Side}

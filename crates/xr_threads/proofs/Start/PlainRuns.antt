@@ -2,14 +2,14 @@
 use Rattle.std.proofs.Common.{◌≡◌, ℕ, List, [], ◌∷◌, Option, Some, None, slice_get, refl, ap, subst, ◌∙◌}
 use Rattle.xs_instr.specs.declared.image.Stim.{Stim}
 use Rattle.xc_kernel.specs.Plain as kernel
-use Rattle.xc_laws.specs.Each.{EachBranch}
-use Rattle.xc_laws.specs.Every.{AllItems, EveryItem}
-use Rattle.xc_laws.specs.Lawful.{Lawful}
-use Rattle.xc_laws.specs.Rules.{AnyPar, AnyThing}
-use Rattle.xc_laws.proofs.Always.{laws_kept}
-use Rattle.xc_laws.proofs.EachItems.{each_branch_kept}
-use Rattle.xc_laws.proofs.Lookups.{born}
-use Rattle.xc_laws.proofs.Uses.{every_kept, no_text}
+use Rattle.xc_invariants.specs.Each.{EachBranch}
+use Rattle.xc_invariants.specs.Every.{AllItems, EveryItem}
+use Rattle.xc_invariants.specs.Lawful.{Lawful}
+use Rattle.xc_invariants.specs.Rules.{AnyPar, AnyThing}
+use Rattle.xc_invariants.proofs.Always.{laws_kept}
+use Rattle.xc_invariants.proofs.EachItems.{each_branch_kept}
+use Rattle.xc_invariants.proofs.Lookups.{born}
+use Rattle.xc_invariants.proofs.Uses.{every_kept, no_text}
 use Rattle.xc_meaning.proofs.Basics.{none_given, some_given}
 use Rattle.xc_meaning.proofs.Moved.{moved}
 use Rattle.xc_meaning.specs.Outline.{Becomes, Enters, Moved, ends_it, enters, errs, exits, goes, makes}

@@ -11,11 +11,11 @@ use Rattle.xc_kernel.specs.Programs.{Function, function_named, name_of_main, cou
 use Rattle.xc_kernel.specs.Scopes.{Scope}
 use Rattle.xc_kernel.specs.Size.{most_statements}
 use Rattle.xc_kernel.specs.Statements.{calls_copy}
-use Rattle.xc_roots.specs.Contexts.{ports_from}
-use Rattle.xc_roots.specs.Instances.{instance_count}
+use Rattle.xc_inline.specs.Contexts.{ports_from}
+use Rattle.xc_inline.specs.Instances.{instance_count}
 use Rattle.xc_copy.specs.Ports.{names_among, names_of_ports}
-use Rattle.xc_roots.specs.Roots.{numbering_by, rooted_by}
-use Rattle.xc_roots.proofs.Laws.Instances.{all_roots_few, calls_few}
+use Rattle.xc_inline.specs.Roots.{numbering_by, rooted_by}
+use Rattle.xc_inline.proofs.Laws.Instances.{all_roots_few, calls_few}
 use Rattle.xc_copy.proofs.Ports.{ports_named}
 use Rattle.xc_copy.proofs.program.copy.Goals as goal
 

@@ -1,7 +1,7 @@
 use Rattle.std.proofs.Common.{[], ap, ◌∙◌}
 use Rattle.xc_kernel.specs.Copy.{numbering_in}
-use Rattle.xc_roots.specs.Contexts.{functions_of, ports_from}
-use Rattle.xc_roots.specs.Roots.{rooted_by}
+use Rattle.xc_inline.specs.Contexts.{functions_of, ports_from}
+use Rattle.xc_inline.specs.Roots.{rooted_by}
 use Rattle.xc_copy.proofs.program.numbered.Goals as goal
 
 pub returns : goal.returns

@@ -1,10 +1,10 @@
 use Rattle.std.proofs.Common.{◌≡◌, subst}
 use Rattle.std.specs.Prelude.{IfOk}
 use Rattle.xc_kernel.specs.Numbering.{Numbering}
-use Rattle.xc_roots.specs.declared.roots.Rooted.{Rooted}
-use Rattle.xc_roots.specs.Contexts.{functions_of, ports_from}
-use Rattle.xc_roots.specs.Numbers.{numbering_of}
-use Rattle.xc_roots.specs.Roots.{numbering_by, rooted_by, rooted_of}
+use Rattle.xc_inline.specs.declared.roots.Rooted.{Rooted}
+use Rattle.xc_inline.specs.Contexts.{functions_of, ports_from}
+use Rattle.xc_inline.specs.Numbers.{numbering_of}
+use Rattle.xc_inline.specs.Roots.{numbering_by, rooted_by, rooted_of}
 use Rattle.xc_copy.proofs.Results.{known_first, known_second}
 use Rattle.xc_copy.proofs.program.walked.Goals as goal
 

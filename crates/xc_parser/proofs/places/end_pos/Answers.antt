@@ -2,7 +2,7 @@ use Rattle.std.proofs.Common.{◌≡◌, ◌+◌, sym, ap, ◌∙◌, arith, dro
 use Rattle.std.proofs.lemmas.List.{at_drop_all}
 use Rattle.std.proofs.Math.Seq.{take-length}
 use Rattle.xc_tree.specs.Places.{pos_behind}
-use Rattle.xc_phrases.proofs.Derivations.Columns.{pos_step, line_feed, no_line_feed}
+use Rattle.xc_nonterminals.proofs.Derivations.Columns.{pos_step, line_feed, no_line_feed}
 use Rattle.xc_parser.proofs.places.end_pos.Goals as goal
 use Rattle.xc_parser.proofs.places.end_pos.Goals.{then-b-eq10, else-b-eq10}
 

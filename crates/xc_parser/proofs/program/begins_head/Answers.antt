@@ -1,7 +1,7 @@
 use Rattle.std.proofs.Common.{refl}
 use Rattle.xc_tree.specs.Symbol.{head}
-use Rattle.xc_phrases.specs.Follows.{first}
-use Rattle.xc_phrases.proofs.Derivations.Single.{one_word}
+use Rattle.xc_nonterminals.specs.Follows.{first}
+use Rattle.xc_nonterminals.proofs.Derivations.Single.{one_word}
 use Rattle.xc_parser.proofs.program.begins_head.Goals as goal
 
 pub returns-then-is_word-clause-yes : goal.returns-then-is_word-clause-yes

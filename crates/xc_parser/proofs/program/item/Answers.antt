@@ -1,10 +1,10 @@
 use Rattle.std.proofs.Common.{refl}
 use Rattle.xc_tree.specs.Symbol as symbol
 use Rattle.xc_tree.specs.Derives.{deepest}
-use Rattle.xc_phrases.specs.Follows.{first}
-use Rattle.xc_phrases.proofs.Reading.Exits.{handed_on}
-use Rattle.xc_phrases.proofs.Declaring.ItemHeads.{head_stops, at_head}
-use Rattle.xc_phrases.proofs.Reading.Paths.{begin, over_symbol, lacks, lacks_symbol, read, stops, finish}
+use Rattle.xc_nonterminals.specs.Follows.{first}
+use Rattle.xc_nonterminals.proofs.Reading.Exits.{handed_on}
+use Rattle.xc_nonterminals.proofs.Declaring.ItemHeads.{head_stops, at_head}
+use Rattle.xc_nonterminals.proofs.Reading.Paths.{begin, over_symbol, lacks, lacks_symbol, read, stops, finish}
 use Rattle.xc_parser.proofs.program.item.Goals as goal
 
 pub returns-in_err-port-clause-stopped : goal.returns-in_err-port-clause-stopped

@@ -1,6 +1,6 @@
 use Rattle.std.proofs.Common.{subst, arith}
-use Rattle.xc_phrases.specs.Programs.{NoProgram, NoShallow, Halted}
-use Rattle.xc_phrases.proofs.Reading.Whole.{is_program, only_program, program_depth, unbroken, first_201, first_202, each_deep}
+use Rattle.xc_nonterminals.specs.Programs.{NoProgram, NoShallow, Halted}
+use Rattle.xc_nonterminals.proofs.Reading.Whole.{is_program, only_program, program_depth, unbroken, first_201, first_202, each_deep}
 use Rattle.xc_parser.proofs.program.parse.Goals as goal
 
 pub returns-in-Ok-clause-tree : goal.returns-in-Ok-clause-tree

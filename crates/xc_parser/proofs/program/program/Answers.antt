@@ -3,10 +3,10 @@ use Rattle.std.proofs.lemmas.List.{map_push}
 use Rattle.xc_tree.specs.Derives.{deepest}
 use Rattle.xc_tree.specs.Symbol as symbol
 use Rattle.xc_tree.specs.Trees.{item_of}
-use Rattle.xc_phrases.specs.Reading.{Reads}
-use Rattle.xc_phrases.proofs.Reading.Exits.{handed_on}
-use Rattle.xc_phrases.proofs.Derivations.Cuts.{one_of_within}
-use Rattle.xc_phrases.proofs.Reading.Items.{gathers_none, one_item, one_prototype, no_item, item_stops}
+use Rattle.xc_nonterminals.specs.Reading.{Reads}
+use Rattle.xc_nonterminals.proofs.Reading.Exits.{handed_on}
+use Rattle.xc_nonterminals.proofs.Derivations.Cuts.{one_of_within}
+use Rattle.xc_nonterminals.proofs.Reading.Items.{gathers_none, one_item, one_prototype, no_item, item_stops}
 use Rattle.xc_parser.proofs.program.program.Goals as goal
 
 pub items-init : goal.items-init

@@ -1,6 +1,6 @@
 use Rattle.std.proofs.Common.{◌≤◌, ◌-◌, length, map}
 use Rattle.xc_tree.specs.Trees.{item_of}
-use Rattle.xc_phrases.proofs.Reading.Items.{Gathers}
+use Rattle.xc_nonterminals.proofs.Reading.Items.{Gathers}
 use Rattle.xc_parser.proofs.program.program.Given as goal
 
 abbrev pub invariant-items : goal.invariant-items

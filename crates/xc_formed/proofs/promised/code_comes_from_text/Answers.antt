@@ -1,5 +1,0 @@
-use Rattle.xc_formed.proofs.Sourced.{code_has_source}
-use Rattle.xc_formed.proofs.promised.code_comes_from_text.Goals as goal
-
-pub returns : goal.returns
-returns c = code_has_source

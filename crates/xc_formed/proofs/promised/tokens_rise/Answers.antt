@@ -1,5 +1,0 @@
-use Rattle.xc_formed.proofs.Texts.{texts_rise}
-use Rattle.xc_formed.proofs.promised.tokens_rise.Goals as goal
-
-pub returns : goal.returns
-returns c = texts_rise

@@ -1,0 +1,16 @@
+use Rattle.std.proofs.Common.{◌∙◌, ◌++◌, ◌∷◌, []}
+use Rattle.xc_kernel.specs.Copy as copies
+use Rattle.xc_kernel.specs.Scopes as scopes
+use Rattle.xc_inline.specs.Scopes.{scope_of}
+use Rattle.xc_inline.proofs.Laws.Results.{given_on}
+use Rattle.xc_inline.proofs.context.Context.channel.Goals as goal
+
+pub returns : goal.returns
+returns c = given_on c.and_channel.result c.and_channel.ensures (λ _ h.
+    let path = c.in_ok-path.ensures in
+    let own = (rw c.in_ok-own.ensures.second at c.same_path-own.ensures) ∙ c.as_slice.ensures ∙ path in
+    let behind = scope_of c.declare-declared.new.self in
+    let scope = (rw c.in_ok-own.ensures.first at c.declare-declared.ensures) ∙ (λ i. scopes.with_name (scope_of c.args.scope.now) c.args.name.now (scopes.a_channel (path i))) in
+    h behind
+    ∙ (λ i. record (c.nothing.ensures behind i) { channels = (c.nothing.ensures behind i).channels ++ record { streaming = c.args.streaming; path = own i; pos = c.args.pos } ∷ [] })
+    ∙ λ i. record (copies.no_copy (scope i)) { channels = record { streaming = c.args.streaming; path = own 1; pos = c.args.pos } ∷ [] })

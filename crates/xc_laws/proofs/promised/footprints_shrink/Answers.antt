@@ -1,5 +1,0 @@
-use Rattle.xc_laws.proofs.Frames.{footprints_shrink}
-use Rattle.xc_laws.proofs.promised.footprints_shrink.Goals as goal
-
-pub returns : goal.returns
-returns c = footprints_shrink

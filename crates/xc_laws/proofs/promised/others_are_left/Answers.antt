@@ -1,5 +1,0 @@
-use Rattle.xc_laws.proofs.Frames.{others_are_left}
-use Rattle.xc_laws.proofs.promised.others_are_left.Goals as goal
-
-pub returns : goal.returns
-returns c = others_are_left

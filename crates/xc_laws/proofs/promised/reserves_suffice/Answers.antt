@@ -1,5 +1,0 @@
-use Rattle.xc_laws.proofs.Always.{budgets_suffice}
-use Rattle.xc_laws.proofs.promised.reserves_suffice.Goals as goal
-
-pub returns-clause-suffice : goal.returns-clause-suffice
-returns-clause-suffice c = budgets_suffice

@@ -1,5 +1,0 @@
-use Rattle.xc_laws.proofs.Always.{suffices, branches_fit}
-use Rattle.xc_laws.proofs.promised.threads_suffice.Goals as goal
-
-pub returns : goal.returns
-returns c = record { below = suffices; fit = branches_fit }

@@ -1,6 +1,0 @@
-use Rattle.std.proofs.Common.{refl}
-use Rattle.xc_tree.proofs.Forms.{expression-made, form-Name}
-use Rattle.xc_phrases.proofs.nodes.name.Goals as goal
-
-pub returns : goal.returns
-returns c = record { made = rw (expression-made, form-Name) refl }

@@ -1,4 +1,0 @@
-use Rattle.xc_phrases.proofs.parser.Parser.closed.Goals as goal
-
-pub returns-clause-read : goal.returns-clause-read
-returns-clause-read g c = (c.in_ok-behind.behind.value, c.in_ok-behind.ensures.read)

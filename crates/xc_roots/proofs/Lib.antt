@@ -1,3 +1,0 @@
-pub mod Laws
--- What crates above cite of these laws.
-pub use Rattle.xc_roots.proofs.Laws.Instances

@@ -1,6 +1,0 @@
-use Rattle.xc_roots.specs.Scopes.{scope_of}
-use Rattle.xc_roots.proofs.Laws.Results.{given_on}
-use Rattle.xc_roots.proofs.context.Context.assigned_behind.Goals as goal
-
-pub returns : goal.returns
-returns c = given_on c.joined.result c.joined.ensures (λ _ h. λ within call is. h within (scope_of c.args.scope.now) call _ is c.value_assigned-stored.ensures)

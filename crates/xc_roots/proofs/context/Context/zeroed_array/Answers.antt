@@ -1,9 +1,0 @@
-use Rattle.std.proofs.Common.{◌∙◌}
-use Rattle.xc_roots.proofs.Laws.Flow.{stored_made}
-use Rattle.xc_roots.proofs.Laws.Results.{given_on}
-use Rattle.xc_roots.proofs.context.Context.zeroed_array.Goals as goal
-
-pub returns : goal.returns
-returns c = given_on c.and_variable.result c.and_variable.ensures (λ _ h. λ behind.
-    let zeroed = rw c.in_ok-variable-2.ensures.made at c.one_statement-zeroed.ensures in
-    stored_made c.set_zero.ensures (zeroed behind) (c.in_ok-variable-2.ensures.value ∙ c.in_ok-variable.ensures) (h behind))

@@ -1,9 +1,0 @@
-use Rattle.std.proofs.Common.{ap, ◌∙◌}
-use Rattle.xc_roots.specs.Copied.{copy_of}
-use Rattle.xc_roots.proofs.Laws.Results.{given_on_both}
-use Rattle.xc_roots.proofs.copied.Copied.followed_by.Goals as goal
-
-pub returns : goal.returns
-returns c = given_on_both c.after.result c.after.ensures.value c.after.ensures.done (λ _ same done. λ before after.
-    let joined = rw done at c.join-joined.ensures in
-    ap (λ x. copy_of x after) same ∙ joined before after)

@@ -1,6 +1,0 @@
-use Rattle.std.proofs.Common.{◌∙◌}
-use Rattle.xc_roots.proofs.Laws.Operators.{truth_by_symbol}
-use Rattle.xc_roots.proofs.operators.gives_truth.Goals as goal
-
-pub returns : goal.returns
-returns c = c.contains.ensures.value ∙ truth_by_symbol c.args.symbol
