@@ -25,7 +25,7 @@ use Rattle.xc_wellformed.specs.Each.{AnyExpression, AnyPlace, AnyNumber, EachSta
 use Rattle.xc_wellformed.specs.Transfers.{OutputGoes, InputComes, GoesOut, ComesIn, can_read}
 use Rattle.xc_wellformed.proofs.Formed.{transfers_right}
 use Rattle.xc_wellformed.proofs.Grammar.{AllOf, MaybeOf}
-use Rattle.xl_walk.specs.Built.{IsSent, IsReceived, IsBuilt, AreBuilt, BranchesAreBuilt}
+use Rattle.xl_statements.specs.Built.{IsSent, IsReceived, IsBuilt, AreBuilt, BranchesAreBuilt}
 use Rattle.xl_image.specs.Roots.{RootsAreBuilt, StayOnCores}
 use Rattle.xc_today.specs.Today.{AreItemsUnstamped}
 use Rattle.xc_today.specs.Laws.{AreOutItems, KernelsAreBuilt}

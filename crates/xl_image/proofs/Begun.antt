@@ -10,8 +10,8 @@ use Rattle.xl_expr.specs.declared.plan.Plan.{Plan}
 use Rattle.xl_expr.specs.Targets.{AreGoodLines}
 use Rattle.xl_expr.proofs.GoodCode.{good_append}
 use Rattle.xl_plan.specs.Layout.{temporary_of}
-use Rattle.xl_walk.specs.Inside.{StandAlone}
-use Rattle.xl_sides.specs.Ends.{Sides}
+use Rattle.xl_statements.specs.Inside.{StandAlone}
+use Rattle.xl_ends.specs.Ends.{Sides}
 use Rattle.xl_image.specs.Images.{SidedRoot, root_sides, sided_on, sided_roots}
 use Rattle.xl_image.specs.Roots.{AreReady, AreRoots, IsRootCode, most_of_root, most_of_roots}
 use Rattle.xl_image.proofs.Sided.{roots_are, root_in, root_known, sided_from_here}

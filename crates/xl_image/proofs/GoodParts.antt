@@ -21,7 +21,7 @@ use Rattle.xl_plan.specs.Planned.{ports_on}
 use Rattle.xl_plan.proofs.Ends.{ends_are_used, few_ends}
 use Rattle.xl_plan.proofs.PortsDiffer.{ports_apart}
 use Rattle.xl_plan.proofs.Sizes.{few_words}
-use Rattle.xl_sides.specs.Ends.{Sides}
+use Rattle.xl_ends.specs.Ends.{Sides}
 use Rattle.xl_image.specs.Images.{SidedRoot, decl_of, pairs_below, roots_on, sided_on, sided_roots}
 use Rattle.xl_image.specs.Roots.{AreRoots, IsRootCode}
 use Rattle.xl_image.specs.Parts.{IsPartOf, below, cores_of, has_root, is_some_root, number_of}

@@ -13,7 +13,7 @@ use Rattle.xl_expr.specs.declared.plan.Plan.{Plan}
 use Rattle.xl_expr.proofs.Lists.{stand_front, stand_back}
 use Rattle.xl_plan.specs.Layout.{temporary_of}
 use Rattle.xl_plan.proofs.Lists.{some_given, none_given, contains_at}
-use Rattle.xl_walk.proofs.Stands as walk
+use Rattle.xl_statements.proofs.Stands as walk
 use Rattle.xc_disjoint.specs.Checked.{IsChecked}
 use Rattle.xl_image.specs.Images.{IsCoreImage, IsImage, SidedRoot, pairs_below, root_sides, roots_on, sided_on, sided_roots, thread_of}
 use Rattle.xl_image.specs.Parts.{IsPartOf, cores_of, is_some_root, number_of}

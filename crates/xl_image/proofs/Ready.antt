@@ -23,8 +23,8 @@ use Rattle.xl_expr.specs.Plans.{var_in}
 use Rattle.xl_flow.specs.Zeros.{room_of}
 use Rattle.xl_port.specs.Outputs.{output_depth, time_depth, time_nodes}
 use Rattle.xl_chan.specs.Transfers.{dest_depth, dest_nodes}
-use Rattle.xl_walk.specs.Built.{IsBuilt, AreBuilt, BranchesAreBuilt, IsShallow, AreShallow, BranchesAreShallow, HasFewBranches, ParsAreFew, ParsInBranchesAreFew, most, most_branches, most_of_all, most_of_branches, most_levels}
-use Rattle.xl_walk.specs.Inside.{IsInside, AreInside, BranchesAreInside}
+use Rattle.xl_statements.specs.Built.{IsBuilt, AreBuilt, BranchesAreBuilt, IsShallow, AreShallow, BranchesAreShallow, HasFewBranches, ParsAreFew, ParsInBranchesAreFew, most, most_branches, most_of_all, most_of_branches, most_levels}
+use Rattle.xl_statements.specs.Inside.{IsInside, AreInside, BranchesAreInside}
 use Rattle.xl_image.specs.Images.{IsPlan}
 use Rattle.xl_image.specs.Roots.{RootsAreBuilt, AreReady, most_of_roots}
 use Rattle.xl_plan.proofs.Lists.{none_given, some_given}

@@ -12,8 +12,8 @@ use Rattle.xc_disjoint.specs.Cores.{on_core}
 use Rattle.xl_plan.specs.Layout.{number_on}
 use Rattle.xl_plan.proofs.Lists.{some_given, none_given}
 use Rattle.xl_plan.proofs.Numbered.{listed}
-use Rattle.xl_sides.specs.Branches.{sides_of_each}
-use Rattle.xl_sides.specs.Ends.{Sides}
+use Rattle.xl_ends.specs.Branches.{sides_of_each}
+use Rattle.xl_ends.specs.Ends.{Sides}
 use Rattle.xl_image.proofs.Users.{no_sides_are}
 use Rattle.xl_image.specs.Images.{SidedRoot, core_of_root, no_sides, root_sides, roots_on, sided_from, sided_on, sided_roots, sides_or, thread_of}
 

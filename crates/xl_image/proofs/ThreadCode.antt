@@ -8,9 +8,9 @@ use Rattle.xs_instr.specs.Lines.{Line, line, last_or, last_pos, first_pos}
 use Rattle.xc_kernel.specs.Plain as kernel
 use Rattle.xl_expr.specs.declared.plan.Plan.{Plan}
 use Rattle.xl_expr.specs.Targets.{AreGoodLines}
-use Rattle.xl_sides.specs.Ends.{Sides}
-use Rattle.xl_walk.specs.Inside.{StandAlone}
-use Rattle.xl_walk.specs.Roots.{IsRoot}
+use Rattle.xl_ends.specs.Ends.{Sides}
+use Rattle.xl_statements.specs.Inside.{StandAlone}
+use Rattle.xl_statements.specs.Roots.{IsRoot}
 use Rattle.xl_image.specs.Roots.{IsRootCode, stack_code}
 
 -- the place of the last of two lines

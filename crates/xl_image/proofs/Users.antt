@@ -11,7 +11,7 @@ use Rattle.xc_disjoint.specs.Rules.{apart}
 use Rattle.xc_meaning.specs.Runs.{no_side}
 use Rattle.xc_meaning.specs.States.Channels.{first, second}
 use Rattle.xs_instr.specs.declared.image.Pair.{Pair}
-use Rattle.xl_sides.specs.Ends.{Sides}
+use Rattle.xl_ends.specs.Ends.{Sides}
 use Rattle.xl_plan.specs.declared.channels.SideCores.{SideCores}
 use Rattle.xl_plan.specs.Layout.{core_in, cores_of_channels, ends_before, ends_there, first_there, side_cores}
 use Rattle.xl_plan.proofs.Lists.{some_given, none_given}

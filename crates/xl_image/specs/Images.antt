@@ -21,8 +21,8 @@ use Rattle.xc_disjoint.specs.Needs.{ends_on, timers_on, words_on}
 use Rattle.xl_expr.specs.declared.plan.Plan.{Plan}
 use Rattle.xl_plan.specs.Layout.{core_of, end_number, first_temporary, number_on, temporary_of}
 use Rattle.xl_plan.specs.Planned.{HasChannels, HasEnds, HasNoOther, HasPorts, HasTimers, HasUsedPorts, HasUsedTimers, HasUsedVariables, HasVariables, NoneIsTemporary, NoneShare, StandBelow, ports_on}
-use Rattle.xl_sides.specs.Ends.{Sides, codes_in}
-use Rattle.xl_walk.specs.Pieces.{PiecesAt}
+use Rattle.xl_ends.specs.Ends.{Sides, codes_in}
+use Rattle.xl_statements.specs.Pieces.{PiecesAt}
 use Rattle.xl_image.specs.Code.{InstrAt}
 
 -- a plan as `plan` makes it

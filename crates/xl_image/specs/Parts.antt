@@ -9,7 +9,7 @@ use Rattle.xl_expr.specs.declared.plan.Plan.{Plan}
 use Rattle.xl_plan.specs.declared.channels.SideCores.{SideCores}
 use Rattle.xl_plan.specs.Layout.{ends_there, first_there}
 use Rattle.xl_plan.specs.Planned.{ports_on}
-use Rattle.xl_walk.specs.Inside.{StandAlone}
+use Rattle.xl_statements.specs.Inside.{StandAlone}
 use Rattle.xl_image.specs.Images.{IsPlan, decl_of, roots_on, sided_on, sided_roots}
 use Rattle.xl_image.specs.Roots.{AreRoots}
 

@@ -10,10 +10,10 @@ use Rattle.xl_expr.specs.declared.plan.Plan.{Plan}
 use Rattle.xl_expr.specs.declared.plan.VarPlan.{VarPlan}
 use Rattle.xl_image.specs.Images.{SidedRoot}
 use Rattle.xl_plan.specs.Layout.{temporary_of}
-use Rattle.xl_sides.specs.Ends.{Sides}
-use Rattle.xl_walk.specs.Built.{AreBuilt, AreShallow, ParsAreFew, most_of_all}
-use Rattle.xl_walk.specs.Inside.{AreInside}
-use Rattle.xl_walk.specs.Roots.{IsRoot}
+use Rattle.xl_ends.specs.Ends.{Sides}
+use Rattle.xl_statements.specs.Built.{AreBuilt, AreShallow, ParsAreFew, most_of_all}
+use Rattle.xl_statements.specs.Inside.{AreInside}
+use Rattle.xl_statements.specs.Roots.{IsRoot}
 
 -- each root's code is built
 abbrev pub RootsAreBuilt : List kernel.Root → Type 0

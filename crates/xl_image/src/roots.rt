@@ -7,16 +7,16 @@ ghost use Rattle.xc_kernel.specs.Kernels.{kernel_of, root_of};
 ghost use Rattle.xs_instr.specs.Adds.{Adds};
 ghost use Rattle.xl_image.specs.Images.{IsPlan, sided_on, sided_roots};
 ghost use Rattle.xl_image.specs.Roots.{AreRoots, IsReady, IsRootCode, RootsAreBuilt, most_of_root};
-ghost use Rattle.xl_sides.specs.Sides.{sides_of};
-ghost use Rattle.xl_walk.specs.Inside.{StandAlone};
+ghost use Rattle.xl_ends.specs.Sides.{sides_of};
+ghost use Rattle.xl_statements.specs.Inside.{StandAlone};
 
 use std::alloc::Global;
 use xc_disjoint::Checked;
 use xc_kernel::Root;
+use xl_ends::{Side, sides_of_roots};
 use xl_expr::Plan;
 use xl_plan::temporary_words;
-use xl_sides::{Side, sides_of_roots};
-use xl_walk::emit_root;
+use xl_statements::emit_root;
 use xs_instr::{Emitter, Instr, Reg};
 use xw_words::{List, Memory};
 

@@ -5,7 +5,7 @@ use Rattle.std.proofs.lemmas.List.FromFn.{get_or-map-range_with_len, map-range_w
 use Rattle.std.proofs.lemmas.List.Sums.{sum_by-cons}
 use Rattle.xc_kernel.specs.Plain as kernel
 use Rattle.xc_kernel.specs.Things.{channel, by_statements}
-use Rattle.xl_sides.specs.Uses.{uses_among}
+use Rattle.xl_ends.specs.Uses.{uses_among}
 use Rattle.xl_expr.specs.declared.plan.EndPlaces.{EndPlaces}
 use Rattle.xl_plan.specs.declared.channels.SideCores.{SideCores}
 use Rattle.xl_plan.specs.Layout.{end_places, end_places_from, ends_before, ends_there, first_there, second_or, side_cores}

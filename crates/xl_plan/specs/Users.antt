@@ -1,7 +1,7 @@
 -- Which roots use which channels, as lists.
 use Rattle.std.specs.Prelude.{ℕ, false, cond, List, [], ◌∷◌, Option, Some, None, slice_index_or}
 use Rattle.xc_kernel.specs.Plain as kernel
-use Rattle.xl_sides.specs.Uses.{uses_among}
+use Rattle.xl_ends.specs.Uses.{uses_among}
 use Rattle.xl_plan.specs.declared.channels.RootUses.{RootUses}
 use Rattle.xl_plan.specs.declared.channels.SideCores.{SideCores}
 use Rattle.xl_plan.specs.Layout.{second_or}

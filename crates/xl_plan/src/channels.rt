@@ -10,8 +10,8 @@ ghost use Rattle.xl_plan.specs.Users.{cores_among, first_or, uses_of_root};
 use std::alloc::Global;
 use xc_disjoint::Checked;
 use xc_kernel::Root;
+use xl_ends::used_channels;
 use xl_expr::EndPlaces;
-use xl_sides::used_channels;
 use xw_words::{List, Memory};
 
 /// The cores of a channel's two sides, which are the same where all that use it are on one core.

@@ -5,7 +5,7 @@ ghost use Rattle.std.specs.Prelude.{map};
 ghost use Rattle.xc_kernel.specs.Kernels.{input_of, output_of, root_of, statement_of};
 ghost use Rattle.xc_kernel.specs.Plain as plain;
 ghost use Rattle.xl_image.specs.Roots.{RootsAreBuilt};
-ghost use Rattle.xl_walk.specs.Built.{AreBuilt, BranchesAreBuilt, IsBuilt, branches_of, statements_of};
+ghost use Rattle.xl_statements.specs.Built.{AreBuilt, BranchesAreBuilt, IsBuilt, branches_of, statements_of};
 
 use xc_kernel::{KBranch, KHead, KOut, KRes, Kst, Root};
 
@@ -25,7 +25,7 @@ pub fn are_roots_built(roots: &[Root]) -> bool
 
 /// Whether the code of each statement is built.
 #[cycle(statement)]
-#[tactic(auto, using(xl_walk::proofs::Walks::statements_at))]
+#[tactic(auto, using(xl_statements::proofs::Walks::statements_at))]
 fn are_built(statements: &[Kst]) -> bool
     ensures { OnTrue result (AreBuilt (statements_of statements.now)) }
 {
@@ -60,7 +60,7 @@ fn is_built(statement: &Kst) -> bool
 
 /// Whether the code of each branch is built.
 #[cycle(statement)]
-#[tactic(auto, using(xl_walk::proofs::Slaves::branches_at))]
+#[tactic(auto, using(xl_statements::proofs::Slaves::branches_at))]
 fn are_branches_built(branches: &[KBranch]) -> bool
     ensures { OnTrue result (BranchesAreBuilt (branches_of branches.now)) }
 {

@@ -4,9 +4,9 @@ use Rattle.xs_instr.specs.declared.image.Code.{Code}
 use Rattle.xs_instr.specs.declared.instr.Instr.TheVariants.{Freet}
 use Rattle.xc_meaning.specs.States.Items.{Item, does, says, stores, stamps, mark, awaits, transaction_end, chooses, fixed, ends}
 use Rattle.xl_expr.specs.declared.plan.Plan.{Plan}
-use Rattle.xl_sides.specs.Ends.{Sides}
+use Rattle.xl_ends.specs.Ends.{Sides}
 use Rattle.xr_threads.specs.Parents.{Parent}
-use Rattle.xl_walk.specs.Pieces.{ClosesAt, Exit, Jumps, PieceAt, SlaveEndsAt}
+use Rattle.xl_statements.specs.Pieces.{ClosesAt, Exit, Jumps, PieceAt, SlaveEndsAt}
 
 module _ (plan : Plan) (code : Code) where
   -- n jumps lead to where P holds with a number of further jumps; j is the sum of both

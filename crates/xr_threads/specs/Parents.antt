@@ -1,7 +1,7 @@
 -- The branches that wait for the one that a thread runs.
 use Rattle.std.specs.Prelude.{ℕ, List, [], ◌∷◌, Option, Some, None}
 use Rattle.xc_meaning.specs.States.Items.{Item}
-use Rattle.xl_sides.specs.Ends.{Sides}
+use Rattle.xl_ends.specs.Ends.{Sides}
 
 -- A branch that waits for those of its `par`, the first of which its own thread runs: its number, theirs, the synchroniser of the other
 -- ones where there are some, what is left to it, the sides of channels in which it stands, and the transactions, the innermost first.

@@ -25,7 +25,7 @@ use Rattle.xc_kernel.specs.declared.kernel.Timer.{Timer}
 use Rattle.xc_meaning.specs.States.Channels.{Side}
 use Rattle.xc_meaning.specs.States.Items.{Item}
 use Rattle.xc_meaning.specs.Uses.{by_items}
-use Rattle.xl_sides.specs.Ends.{Sides, end_of_side}
+use Rattle.xl_ends.specs.Ends.{Sides, end_of_side}
 use Rattle.xr_threads.specs.Parents.{Parent}
 use Rattle.xr_threads.specs.Transfers.{Transfer}
 

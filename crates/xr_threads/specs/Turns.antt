@@ -39,13 +39,13 @@ use Rattle.xc_meaning.specs.Uses.{by_item}
 use Rattle.xl_chan.specs.Protocols.{Act, ActsAll, input_acts, output_acts}
 use Rattle.xl_expr.specs.ResourceParts.{part_of}
 use Rattle.xl_expr.specs.Stores.{Stores}
-use Rattle.xl_sides.specs.Ends.{Sides, codes_in}
+use Rattle.xl_ends.specs.Ends.{Sides, codes_in}
 use Rattle.xl_par.specs.Hands.{Hand, IsAmong, empty_hand}
 use Rattle.xl_image.specs.Images.{decl_of}
 use Rattle.xl_plan.specs.Layout.{port_number}
 use Rattle.xr_threads.specs.Items.{EndAt, ItemsAt}
 use Rattle.xr_threads.specs.Parents.{Parent, syncs_of}
-use Rattle.xl_walk.specs.Pieces.{Exit, LinesAt, PieceAt}
+use Rattle.xl_statements.specs.Pieces.{Exit, LinesAt, PieceAt}
 use Rattle.xr_threads.specs.Fits.{Fits, ItemsFit, greatest}
 use Rattle.xr_threads.specs.Runners.{HoldsPlaces, Block, Setting, Runner, IsLaidOut, IsPort, code, end_place, home, plan, port_place}
 use Rattle.xr_threads.specs.Transfers.{Transfer, AwaitsNothing, GoesWith, acts_left, items_behind}

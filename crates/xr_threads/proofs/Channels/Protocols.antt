@@ -20,7 +20,7 @@ use Rattle.xc_kernel.specs.Plain as kernel
 use Rattle.xc_meaning.specs.States.Channels.{Side}
 use Rattle.xc_meaning.specs.States.Items.{Item, awaits, chooses, does, ends, fixed, mark, says, storing, stores, stamps, transaction_end}
 use Rattle.xl_chan.specs.Protocols.{END, Act, Acts, ActsAll, Behind, input_acts, output_acts, sends, takes, takes_word}
-use Rattle.xl_walk.specs.Pieces.{Exit}
+use Rattle.xl_statements.specs.Pieces.{Exit}
 use Rattle.xr_threads.specs.Runners.{Setting, Runner, end_place, home}
 use Rattle.xr_threads.specs.ThreadViews.{running}
 use Rattle.xr_threads.specs.Transfers.{AwaitsNothing, acts_left}

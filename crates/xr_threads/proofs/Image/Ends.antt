@@ -11,7 +11,7 @@ use Rattle.xl_image.specs.Images.{IsPlan}
 use Rattle.xl_image.specs.Roots.{StayOnCores}
 use Rattle.xl_plan.specs.Layout.{end_name, end_places, ends_before, ends_below, first_there, places_on, second_there, side_cores}
 use Rattle.xl_plan.proofs.Ends.{few_ends}
-use Rattle.xl_sides.specs.Ends.{end_of_side, place_of}
+use Rattle.xl_ends.specs.Ends.{end_of_side, place_of}
 use Rattle.xr_threads.specs.Runners.{EndIsPlanned, IsChannel, Runner, Setting, end_place, plan}
 use Rattle.xr_threads.proofs.Image.Sides.{both, known}
 use Rattle.xr_threads.proofs.Image.ResourceNames.{end_named}

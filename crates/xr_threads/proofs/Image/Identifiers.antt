@@ -10,7 +10,7 @@ use Rattle.xl_expr.specs.declared.plan.ResAt.TheVariants.{Fixed}
 use Rattle.xl_expr.specs.Identifiers.{IsIdentifier}
 use Rattle.xl_expr.specs.Plans.{end_in, resource_at}
 use Rattle.xl_plan.specs.Layout.{end_name, port_name}
-use Rattle.xl_sides.specs.Ends.{end_of_side}
+use Rattle.xl_ends.specs.Ends.{end_of_side}
 use Rattle.xr_threads.specs.Runners.{Setting, Runner, IsChannel, IsLaidOut, IsPort, end_place, home, plan, port_place, relied}
 use Rattle.xr_threads.specs.ThreadViews.{ThreadView}
 

@@ -17,7 +17,7 @@ use Rattle.xl_expr.specs.Frames.{variable_of}
 use Rattle.xl_expr.specs.Measures.{nodes, nodes_at}
 use Rattle.xl_expr.specs.Stores.{index_in}
 use Rattle.xl_flow.specs.Flow.{SetOutcome}
-use Rattle.xl_walk.specs.Pieces.{Exit}
+use Rattle.xl_statements.specs.Pieces.{Exit}
 use Rattle.xr_threads.specs.Fits.{ItemsFit, Uses, UsesAt}
 use Rattle.xr_threads.specs.Runners.{Setting, Runner, IsLaidOut, home, plan, relied}
 use Rattle.xr_threads.specs.ThreadViews.{ThreadView, running}

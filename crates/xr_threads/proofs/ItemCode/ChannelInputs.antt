@@ -17,8 +17,8 @@ use Rattle.xl_chan.specs.Protocols.{input_acts}
 use Rattle.xl_chan.specs.Transfers.{AtProtocol, EndsAt, Receives, WritesTo}
 use Rattle.xl_expr.proofs.Lists.{stand_back, stand_front}
 use Rattle.xl_expr.proofs.Runs.{r0_alone}
-use Rattle.xl_sides.specs.Ends.{end_at}
-use Rattle.xl_walk.specs.Pieces.{ByEndAt, Exit, InputAt}
+use Rattle.xl_ends.specs.Ends.{end_at}
+use Rattle.xl_statements.specs.Pieces.{ByEndAt, Exit, InputAt}
 use Rattle.xr_threads.specs.Fits.{Fits, ItemsFit, TakesInAt}
 use Rattle.xr_threads.specs.Runners.{Setting, Runner, IsChannel, IsLaidOut, code, end_place, home, plan, relied}
 use Rattle.xr_threads.specs.ThreadViews.{ThreadView, Rely, running}

@@ -19,8 +19,8 @@ use Rattle.xc_meaning.specs.States.Worlds.{World}
 use Rattle.xl_chan.specs.Protocols.{output_acts}
 use Rattle.xl_chan.specs.Transfers.{AtProtocol, EndsAt, OutputReaches, SendsValue}
 use Rattle.xl_expr.specs.Measures.{nodes}
-use Rattle.xl_sides.specs.Ends.{end_at}
-use Rattle.xl_walk.specs.Pieces.{ByEndAt, Exit}
+use Rattle.xl_ends.specs.Ends.{end_at}
+use Rattle.xl_statements.specs.Pieces.{ByEndAt, Exit}
 use Rattle.xr_threads.specs.Fits.{Fits, ItemsFit, OutputFits}
 use Rattle.xr_threads.specs.Runners.{Setting, Runner, IsChannel, IsLaidOut, code, end_place, home, plan, relied}
 use Rattle.xr_threads.specs.ThreadViews.{ThreadView, Rely, running}

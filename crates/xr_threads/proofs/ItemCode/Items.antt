@@ -7,8 +7,8 @@ use Rattle.xc_meaning.specs.Settings.Flow.{from_mark_by, items_from_mark}
 use Rattle.xc_meaning.specs.States.Items.{Item, does, says, stores, stamps, mark, awaits, transaction_end, chooses, fixed, ends, todo}
 use Rattle.xl_expr.specs.declared.plan.Plan.{Plan}
 use Rattle.xr_threads.specs.Items.{ItemsAt}
-use Rattle.xl_sides.specs.Ends.{Sides}
-use Rattle.xl_walk.specs.Pieces.{Exit, Jumps, PiecesAt}
+use Rattle.xl_ends.specs.Ends.{Sides}
+use Rattle.xl_statements.specs.Pieces.{Exit, Jumps, PiecesAt}
 use Rattle.xr_threads.specs.Fits.{AllFit, ItemsFit}
 use Rattle.xr_threads.specs.Runners.{Setting, Runner}
 

@@ -13,7 +13,7 @@ use Rattle.xc_meaning.specs.Settings.Flow.{items_from_mark}
 use Rattle.xc_meaning.specs.States.Items.{Item, does}
 use Rattle.xl_expr.proofs.Lists.{get_set_same, get_set_other}
 use Rattle.xl_expr.proofs.ResourceParts.{others_same}
-use Rattle.xl_walk.specs.Pieces as pieces
+use Rattle.xl_statements.specs.Pieces as pieces
 use Rattle.xr_threads.specs.Runners.{Setting, Runner, code, home, plan}
 use Rattle.xr_threads.specs.ThreadViews.{IsStable, LeadsIn, ThreadView, IsSilentStep, after, keeps, running}
 use Rattle.xr_threads.specs.Turns as turn

@@ -7,8 +7,8 @@ use Rattle.xc_meaning.specs.States.Channels.{Side}
 use Rattle.xl_chan.specs.Transfers.{EndStands}
 use Rattle.xl_expr.specs.Identifiers.{IsIdentifier}
 use Rattle.xl_plan.specs.Layout.{end_name}
-use Rattle.xl_sides.specs.Ends.{end_at, end_of_side}
-use Rattle.xl_walk.specs.Pieces.{ByEndAt, LinesAt}
+use Rattle.xl_ends.specs.Ends.{end_at, end_of_side}
+use Rattle.xl_statements.specs.Pieces.{ByEndAt, LinesAt}
 use Rattle.xr_threads.specs.Runners.{Setting, Runner, code, end_place, home, plan, relied}
 use Rattle.xr_threads.specs.ThreadViews.{ThreadView}
 use Rattle.xr_threads.specs.Turns.{HasBases}

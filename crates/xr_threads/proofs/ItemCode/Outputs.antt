@@ -42,7 +42,7 @@ use Rattle.xl_expr.proofs.ResourceParts.{others_fewer, others_of_port}
 use Rattle.xl_plan.specs.Layout.{port_name}
 use Rattle.xl_port.specs.Outputs.{OutputOutcome, PortStands, PutsOut, ResourceIs, TimeIsLaid, ValueOutcome, gone_out, is_due, out_record, output_nodes, set_for, time_nodes}
 use Rattle.xl_port.specs.PortSteps.{WithinPort}
-use Rattle.xl_walk.specs.Pieces.{Exit, OutputAt}
+use Rattle.xl_statements.specs.Pieces.{Exit, OutputAt}
 use Rattle.xr_threads.specs.Fits.{IsOutPort, ItemsFit, OutputFits, PutsOutAt, UsesSome}
 use Rattle.xr_threads.specs.Runners.{IsMine, Setting, Runner, IsLaidOut, code, home, plan, port_place, relied}
 use Rattle.xr_threads.specs.ThreadViews.{ThreadView, Rely, running}

@@ -11,8 +11,8 @@ use Rattle.xl_expr.specs.declared.plan.Plan.{Plan}
 use Rattle.xl_expr.proofs.Lists.{get_set_other}
 use Rattle.xl_par.specs.Opening.{AreReady, ready_thread, turned}
 use Rattle.xr_threads.specs.Items.{EndAt, ItemsAt}
-use Rattle.xl_sides.specs.Ends.{Sides}
-use Rattle.xl_walk.specs.Pieces.{PiecesAt, SlaveEndsAt, SlavesAt}
+use Rattle.xl_ends.specs.Ends.{Sides}
+use Rattle.xl_statements.specs.Pieces.{PiecesAt, SlaveEndsAt, SlavesAt}
 use Rattle.xr_threads.specs.Runners.{Setting, Runner, code, plan}
 use Rattle.xr_threads.specs.ThreadViews.{running}
 use Rattle.xr_threads.specs.Turns.{AreSetOff, Placed, backwards_on, placed_in}

@@ -18,7 +18,7 @@ use Rattle.xl_par.specs.Hands.{Hand, IsAmong}
 use Rattle.xl_par.specs.Closing.{HoldsOuter, KeptSync, QuietStep}
 use Rattle.xr_threads.specs.Items.{EndAt, ItemsAt}
 use Rattle.xr_threads.specs.Parents.{Parent, sync_before, syncs_of}
-use Rattle.xl_walk.specs.Pieces.{ClosesAt, Exit}
+use Rattle.xl_statements.specs.Pieces.{ClosesAt, Exit}
 use Rattle.xr_threads.specs.Runners.{Setting, Runner, code, home, plan, relied}
 use Rattle.xr_threads.specs.ThreadViews.{IsSilentStep, Rely, LeadsIn, keeps, Owns, ThreadView, StillRuns, after, running}
 use Rattle.xr_threads.specs.Turns.{HasBases, HoldsNames, IsAt, Joins, JoinsAt, name_register}

@@ -16,8 +16,8 @@ use Rattle.xl_par.specs.Opening.{HoldsSyncs, SetsOff}
 use Rattle.xr_threads.specs.Fits.{Fits, ItemsFit}
 use Rattle.xr_threads.specs.Items.{EndAt, ItemsAt}
 use Rattle.xr_threads.specs.Parents.{Parent, syncs_of}
-use Rattle.xl_sides.specs.Ends.{Sides, codes_in}
-use Rattle.xl_walk.specs.Pieces.{Exit, SeveralAt, PiecesAt, SlavesAt}
+use Rattle.xl_ends.specs.Ends.{Sides, codes_in}
+use Rattle.xl_statements.specs.Pieces.{Exit, SeveralAt, PiecesAt, SlavesAt}
 use Rattle.xr_threads.specs.Runners.{Setting, Runner, code, home, plan, relied}
 use Rattle.xr_threads.specs.ThreadViews.{ThreadView, running}
 use Rattle.xr_threads.specs.Settled.{HasSeveral}

@@ -16,7 +16,7 @@ use Rattle.xc_meaning.specs.Runs.{acts, step_of}
 use Rattle.xl_expr.specs.Measures.{nodes}
 use Rattle.xl_expr.specs.Works.{steps_before}
 use Rattle.xl_flow.specs.Flow.{Branches, TestOutcome, chosen}
-use Rattle.xl_walk.specs.Pieces.{Exit, TestAt}
+use Rattle.xl_statements.specs.Pieces.{Exit, TestAt}
 use Rattle.xr_threads.specs.Fits.{ItemsFit, Uses, greatest}
 use Rattle.xr_threads.specs.Runners.{Setting, Runner, IsLaidOut, code, home, plan, relied}
 use Rattle.xr_threads.specs.ThreadViews.{ThreadView, running}

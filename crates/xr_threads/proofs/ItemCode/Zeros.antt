@@ -14,7 +14,7 @@ use Rattle.xc_meaning.specs.States.Worlds.{go, with_zeros, zero_for}
 use Rattle.xl_expr.proofs.Lists.{get_set_same, get_set_other}
 use Rattle.xl_expr.proofs.ResourceParts.{others_same}
 use Rattle.xl_flow.specs.Zeros.{IsOutside, WritesLast}
-use Rattle.xl_walk.specs.Pieces.{Exit}
+use Rattle.xl_statements.specs.Pieces.{Exit}
 use Rattle.xr_threads.specs.Fits.{IsChanged, ItemsFit}
 use Rattle.xr_threads.specs.Runners.{Setting, Runner, IsLaidOut, home, relied}
 use Rattle.xr_threads.specs.ThreadViews.{ThreadView, running}

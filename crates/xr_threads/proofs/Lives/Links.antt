@@ -15,7 +15,7 @@ use Rattle.xc_meaning.specs.States.Branches.{Branch}
 use Rattle.xc_meaning.specs.States.Items.{Item}
 use Rattle.xc_meaning.specs.States.Worlds.{World, Action}
 use Rattle.xl_par.specs.Hands.{Hand, IsAmong, with_sync, with_thread_got}
-use Rattle.xl_sides.specs.Ends.{Sides}
+use Rattle.xl_ends.specs.Ends.{Sides}
 use Rattle.xr_match.specs.Lives.{Watched, life_after}
 use Rattle.xr_match.specs.Meanings.{of_kernel}
 use Rattle.xr_match.specs.Sources.{Told}

@@ -12,7 +12,7 @@ use Rattle.xc_meaning.specs.States.Worlds.{go}
 use Rattle.xl_expr.proofs.Lists.{get_set_same, get_set_other}
 use Rattle.xl_expr.proofs.ResourceParts.{others_same}
 use Rattle.xr_threads.specs.Items.{LastAt}
-use Rattle.xl_walk.specs.Pieces.{SlaveEndsAt}
+use Rattle.xl_statements.specs.Pieces.{SlaveEndsAt}
 use Rattle.xr_threads.specs.Runners.{Setting, Runner, code, home, plan}
 use Rattle.xr_threads.specs.ThreadViews.{ThreadView, running}
 use Rattle.xr_threads.specs.Turns as turn

@@ -18,7 +18,7 @@ use Rattle.xc_meaning.specs.Runs.{acts}
 use Rattle.xc_meaning.specs.Uses.{by_item}
 use Rattle.xl_expr.proofs.Lists.{get_set_same, get_set_other}
 use Rattle.xl_expr.proofs.ResourceParts.{part_same, others_same}
-use Rattle.xl_walk.specs.Pieces.{Exit}
+use Rattle.xl_statements.specs.Pieces.{Exit}
 use Rattle.xr_threads.specs.Fits.{ItemsFit}
 use Rattle.xr_threads.specs.Runners.{HoldsPlaces, Setting, Runner, MayChange, home}
 use Rattle.xr_threads.specs.ThreadViews.{ThreadView, running}

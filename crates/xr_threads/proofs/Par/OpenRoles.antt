@@ -5,7 +5,7 @@ use Rattle.std.proofs.lemmas.Bool.{cases_eq, ne_eqb}
 use Rattle.xc_meaning.specs.States.Items.{Item}
 use Rattle.xl_par.specs.Hands.{Hand, IsAmong}
 use Rattle.xl_plan.specs.Layout.{temporary_of}
-use Rattle.xl_sides.specs.Ends.{Sides}
+use Rattle.xl_ends.specs.Ends.{Sides}
 use Rattle.xr_threads.specs.Parents.{Parent, syncs_of}
 use Rattle.xr_threads.specs.Roles.{AreRoles, IsOnce, IsParent, Role, Roles, got_by, outermost, own_branches, unused, used_by}
 use Rattle.xr_threads.specs.Runners.{Setting, Runner, footprint_of, outside}

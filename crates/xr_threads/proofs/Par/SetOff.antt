@@ -11,7 +11,7 @@ use Rattle.xc_meaning.specs.Settings.Par.{Begun, children}
 use Rattle.xc_meaning.specs.Settings.Setting.{Setting as Step'}
 use Rattle.xc_meaning.specs.States.Items.{Item, does, ends, todo}
 use Rattle.xc_meaning.specs.Uses.{by_items}
-use Rattle.xl_sides.specs.Ends.{codes_in}
+use Rattle.xl_ends.specs.Ends.{codes_in}
 use Rattle.xr_threads.specs.Runners.{Setting, Runner, footprint_of}
 use Rattle.xr_threads.specs.Standing.{living_on, one_where}
 use Rattle.xr_threads.specs.Turns.{AreSetOff, IsSetOff, Placed, backwards_on}

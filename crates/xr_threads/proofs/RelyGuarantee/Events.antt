@@ -7,8 +7,8 @@ use Rattle.xs_instr.specs.declared.state.Thread.{Thread}
 use Rattle.xc_meaning.specs.States.Branches.{Mode, runs}
 use Rattle.xc_meaning.specs.States.Items.{Item, does, says, stores, stamps, mark, awaits, transaction_end, chooses, fixed, ends}
 use Rattle.xl_expr.specs.declared.plan.Plan.{Plan}
-use Rattle.xl_sides.specs.Ends.{Sides}
-use Rattle.xl_walk.specs.Pieces.{Exit}
+use Rattle.xl_ends.specs.Ends.{Sides}
+use Rattle.xl_statements.specs.Pieces.{Exit}
 use Rattle.xr_threads.specs.Items.{ItemsAt}
 use Rattle.xr_threads.specs.Runners.{Setting, Runner, code, plan}
 use Rattle.xr_threads.specs.ThreadViews.{running, running_so}

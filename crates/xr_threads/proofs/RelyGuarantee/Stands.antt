@@ -8,7 +8,7 @@ use Rattle.xs_instr.specs.declared.state.Res.TheVariants.{End as ResEnd, Port as
 use Rattle.xc_kernel.specs.declared.statement.KRes.TheVariants.{Port, Timer, Chan}
 use Rattle.xc_kernel.specs.declared.kernel.PortUse.{PortUse}
 use Rattle.xc_meaning.specs.States.Items.{Item, does, says, stores, stamps, mark, awaits, transaction_end, chooses, fixed, ends}
-use Rattle.xl_walk.specs.Pieces.{Exit}
+use Rattle.xl_statements.specs.Pieces.{Exit}
 use Rattle.xr_threads.specs.Fits.{ItemsFit}
 use Rattle.xr_threads.specs.Runners.{Footprint, IsMine, IsPort, Setting, Runner, port_place}
 use Rattle.xr_threads.specs.Transfers.{Transfer}

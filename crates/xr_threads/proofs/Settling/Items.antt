@@ -23,8 +23,8 @@ use Rattle.xl_par.specs.Hands.{Hand, IsAmong}
 use Rattle.xr_threads.specs.Fits.{FitOn, ItemsFit}
 use Rattle.xr_threads.specs.Items.{Behind, ClosingAt, EndAt, FirstAt, ItemsAt}
 use Rattle.xr_threads.specs.Parents.{Parent, sync_before, syncs_of}
-use Rattle.xl_sides.specs.Ends.{Sides}
-use Rattle.xl_walk.specs.Pieces.{ClosesAt, Exit, Jumps, PiecesAt}
+use Rattle.xl_ends.specs.Ends.{Sides}
+use Rattle.xl_statements.specs.Pieces.{ClosesAt, Exit, Jumps, PiecesAt}
 use Rattle.xr_threads.specs.Roles.{ParentWaits, ParentsWait}
 use Rattle.xr_threads.specs.Runners.{HoldsPlaces, Footprint, Setting, Runner, IsPort, code, footprint_of, plan, port_place, shrunk}
 use Rattle.xr_threads.specs.ThreadViews.{IsStable, Owns, ThreadView}

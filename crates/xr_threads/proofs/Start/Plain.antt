@@ -13,7 +13,7 @@ use Rattle.xc_meaning.specs.States.Branches.{Branch}
 use Rattle.xc_meaning.specs.States.Channels.{Side}
 use Rattle.xc_meaning.specs.States.Items.{ends}
 use Rattle.xl_image.specs.Roots.{RootsAreBuilt}
-use Rattle.xl_walk.specs.Built.{AreBuilt, BranchesAreBuilt, IsBuilt}
+use Rattle.xl_statements.specs.Built.{AreBuilt, BranchesAreBuilt, IsBuilt}
 use Rattle.xr_threads.specs.Plain.{ArePlain, NoTransaction}
 
 -- nothing is asked of what code uses

@@ -8,7 +8,7 @@ use Rattle.xc_meaning.specs.Runs.{codes_of_roots, kernel_root, kernel_start, roo
 use Rattle.xc_meaning.specs.Settings.Sides.{sides_in}
 use Rattle.xc_meaning.specs.States.Branches.{Branch}
 use Rattle.xl_image.specs.Images.{no_sides, root_sides, sided_from, sides_or}
-use Rattle.xl_sides.specs.Ends.{Sides, codes_in}
+use Rattle.xl_ends.specs.Ends.{Sides, codes_in}
 
 codes_are : (rs : List kernel.Root) → codes_of_roots (map kernel_root rs) ≡ codes_in (branches_of rs)
 codes_are [] = refl

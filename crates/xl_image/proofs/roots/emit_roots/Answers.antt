@@ -4,7 +4,7 @@ use Rattle.std.proofs.lemmas.List.{get_or-map, length-map}
 use Rattle.xs_instr.specs.Lines.{Line}
 use Rattle.xc_kernel.specs.declared.kernel.Kernel.{Kernel}
 use Rattle.xc_kernel.specs.Kernels.{kernel_of, root_of}
-use Rattle.xl_sides.specs.Sides.{sides_of}
+use Rattle.xl_ends.specs.Sides.{sides_of}
 use Rattle.xl_plan.specs.Layout.{temporary_of}
 use Rattle.xl_plan.proofs.Sizes.{few_words}
 use Rattle.xl_image.specs.Images.{SidedRoot, sided_roots}

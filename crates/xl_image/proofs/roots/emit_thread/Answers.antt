@@ -3,10 +3,10 @@ use Rattle.xc_kernel.specs.declared.statement.Kst.{Kst}
 use Rattle.xc_kernel.specs.Kernels.{root_of}
 use Rattle.xs_instr.specs.Adds.{Adds}
 use Rattle.xs_instr.specs.Lines.{last_pos}
-use Rattle.xl_sides.specs.Sides.{sides_of}
-use Rattle.xl_walk.specs.Built.{statements_of, AreBuilt, AreShallow, ParsAreFew, most_of_all}
-use Rattle.xl_walk.specs.Inside.{AreInside, StandAlone}
-use Rattle.xl_walk.specs.Roots.{IsRoot}
+use Rattle.xl_ends.specs.Sides.{sides_of}
+use Rattle.xl_statements.specs.Built.{statements_of, AreBuilt, AreShallow, ParsAreFew, most_of_all}
+use Rattle.xl_statements.specs.Inside.{AreInside, StandAlone}
+use Rattle.xl_statements.specs.Roots.{IsRoot}
 use Rattle.xl_image.specs.Roots.{IsRootCode, most_of_root}
 use Rattle.xl_image.proofs.ThreadCode.{on_ok, longer, thread_code, thread_alone}
 use Rattle.xl_image.proofs.roots.emit_thread.Goals as goal

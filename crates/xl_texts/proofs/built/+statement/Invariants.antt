@@ -1,5 +1,5 @@
 use Rattle.std.proofs.Common.{drop}
-use Rattle.xl_walk.specs.Built.{AreBuilt, BranchesAreBuilt, branches_of, statements_of}
+use Rattle.xl_statements.specs.Built.{AreBuilt, BranchesAreBuilt, branches_of, statements_of}
 use Rattle.xl_texts.proofs.built.+statement.Given as goal
 
 -- the code of all is built where that of those that are left is
