@@ -3,7 +3,7 @@
 
 use std::alloc::{AllocError, Global};
 use std::test::Fail;
-use xr_commands::xcsim;
+use xr_driver::xcsim;
 use xw_io::{File, MemShelf, MemSink, OpenGate};
 use xw_words::List;
 

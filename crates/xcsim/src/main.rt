@@ -6,7 +6,7 @@ use std::io::ErrorKind;
 use std::process::ExitCode;
 use std::rt::Env;
 use std::{env, io};
-use xr_commands::xcsim;
+use xr_driver::xcsim;
 use xw_io::{FsShelf, OpenGate, StdSink};
 
 /// The words after the program's name.

@@ -5,7 +5,7 @@ use crate::trouble::Trouble;
 use std::alloc::{AllocError, Global};
 use std::sync::Wait;
 use std::thread::Threads;
-use xr_commands::{still, xcsim};
+use xr_driver::{still, xcsim};
 use xw_io::{File, MemShelf, MemSink, OpenGate, Shelf};
 use xw_words::{List, Memory};
 

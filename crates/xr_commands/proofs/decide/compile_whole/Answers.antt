@@ -1,6 +1,0 @@
-use Rattle.xr_commands.proofs.Carried.{all_compiled}
-use Rattle.xr_commands.proofs.decide.compile_whole.Goals as goal
-
-pub returns-clause-compiled : goal.returns-clause-compiled
-returns-clause-compiled c =
-    all_compiled _ c.compile-image.result c.compile-image.ensures.valid c.compile-image.ensures.words c.compile-image.ensures.implements c.compile-image.ensures.of_text

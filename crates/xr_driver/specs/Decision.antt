@@ -1,0 +1,47 @@
+-- What is due, of the values that the program holds.
+use Rattle.std.specs.Prelude.{ℕ, List, [], None}
+use Rattle.xs_instr.specs.Valid.{Valid}
+use Rattle.xr_driver.specs.declared.decide.Decision.{Decision}
+use Rattle.xr_driver.specs.declared.decide.Printed.{Printed}
+use Rattle.xr_driver.specs.declared.decide.Printed.TheVariants.{Nothing, Accepted, Code, Whole}
+use Rattle.xr_driver.specs.declared.decide.Line.{Line}
+use Rattle.xr_driver.specs.declared.decide.Line.TheVariants.{Nothing as NoLine, Usage, NoFile, TooLong, ReadFault, Broken as BrokenLine, NoMemory}
+use Rattle.xr_driver.specs.declared.words.Command.{Command}
+use Rattle.xr_driver.specs.declared.words.Command.TheVariants.{Run, Asm, Check}
+use Rattle.xr_driver.specs.Command.{Command as Meant, Run as MeansRun, Asm as MeansAsm, Check as MeansCheck}
+use Rattle.xr_driver.specs.Lines.{accepted_line, code_section, run_output, usage_line, no_file_line, too_long_line, read_fault_line, broken_line, no_memory_line}
+use Rattle.xr_driver.specs.Answers.{Outcome}
+
+-- the meaning of a command
+abbrev pub command_of : Command → Meant
+command_of (Run file ticks) = MeansRun file.now ticks None
+command_of (Asm file) = MeansAsm file.now
+command_of (Check file) = MeansCheck file.now
+
+-- what is due on `out`
+abbrev pub printed_text : Printed → List ℕ
+printed_text Nothing = []
+printed_text Accepted = accepted_line
+printed_text (Code L) = code_section L
+printed_text (Whole L run) = run_output L run.machine.state.trace run.end
+
+-- what is due can be written
+abbrev pub IsPrintable : Printed → Type 0
+IsPrintable Nothing = Unit {0}
+IsPrintable Accepted = Unit {0}
+IsPrintable (Code L) = Valid L
+IsPrintable (Whole L run) = Valid L
+
+-- what is due on `err`
+abbrev pub line_text : Line → List ℕ
+line_text NoLine = []
+line_text Usage = usage_line
+line_text (NoFile name) = no_file_line name.now
+line_text (TooLong name) = too_long_line name.now
+line_text (ReadFault name) = read_fault_line name.now
+line_text (BrokenLine name broken) = broken_line name.now broken
+line_text NoMemory = no_memory_line
+
+-- what is decided
+abbrev pub outcome_of : Decision → Outcome
+outcome_of d = record { status = d.status; output = printed_text d.printed; line = line_text d.line }

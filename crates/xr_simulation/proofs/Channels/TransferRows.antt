@@ -1,0 +1,144 @@
+-- The steps of a transfer without an action of the program's: an output's END, and CHKCT END and ACK of an input.
+use Rattle.std.proofs.Common.{◌≡◌, ℕ, ◌+◌, ◌≤◌, ◌≢◌, inr, List, [], ◌∷◌, Some, None, refl, sym, ap, subst, arith}
+use Rattle.std.specs.Prelude.{Bool, false, ◌&&◌, nat_eq, slice_get}
+use Rattle.std.proofs.lemmas.Bool.{ne_eqb}
+use Rattle.xs_instr.specs.declared.state.ChanEnd.{ChanEnd}
+use Rattle.xs_instr.specs.declared.state.Regs.{Regs}
+use Rattle.xs_instr.specs.Ends.{control_token}
+use Rattle.xc_meaning.specs.States.Branches.{runs}
+use Rattle.xc_meaning.specs.States.Channels.{Side}
+use Rattle.xr_simulation.specs.Runners.{Runner}
+use Rattle.xr_simulation.specs.ThreadViews.{ThreadView, running}
+use Rattle.xr_simulation.specs.Standing.{IfTrue, IsAtRest, StandsWith, none_rests}
+use Rattle.xr_simulation.specs.Transfers.{GoesWith, acts_left, all_but_first, items_behind, steps_left, in_phase}
+use Rattle.xr_simulation.specs.Turns.{Has, InTransfer, IsBehind, TakesSteps, cost}
+use Rattle.xr_simulation.proofs.OwnSteps.Answers as answers
+use Rattle.xr_simulation.proofs.Channels.EndRows.{AtEnd, Goal, boxes, ends_row, goes_out, goes_row, inside_there, near_end, sends_row, stays_in}
+use Rattle.xr_simulation.proofs.Channels.EndSteps as step
+use Rattle.xr_simulation.proofs.Channels.EndSteps.{gone_on}
+use Rattle.xr_simulation.proofs.Relation.Moments.{BranchAt, Moment, ThreadAt}
+use Rattle.xr_simulation.proofs.OwnSteps.Events.{rests_alone, rests_there}
+use Rattle.xr_simulation.proofs.Channels.Protocols.{ack_sent, end_sent, end_taken}
+use Rattle.xr_simulation.proofs.RelyGuarantee.Phases.{fits_as, has_as, rest_as, steps_as}
+use Rattle.xr_simulation.proofs.RelyGuarantee.Events.{here_at}
+use Rattle.xr_channels.specs.Phases.{Phase, awaits_ack, between, checks_end, offers, sends_ack, sends_end}
+use Rattle.xr_channels.proofs.All.Near as near
+
+-- nobody is at rest on another core
+pub alone_elsewhere : (c : ℕ) (b : Bool) (d : ℕ) → d ≢ c → (nat_eq d c && b) ≡ false
+alone_elsewhere c b d ne = ap (λ k. k && b) (ne_eqb d c ne)
+
+module _ {moment : Moment none_rests} {thread_at : ThreadAt moment None} (branch_at : BranchAt thread_at)
+    (on : branch_at.branch.mode ≡ runs) (channel : ℕ) (side : Side) where
+  open moment use {setting as g, image as is, roles as who, watched as w, told as x, standing as st}
+  open thread_at use {core as c, thread as t, state as a, at_core as at_c, runner as r, runs as runs_r}
+  open branch_at use {branch, stand}
+
+  abbrev now : ThreadView
+  now = record { core = a; world = x.state; hand = None }
+
+  -- the branch has these items still, where the thread goes on
+  has_still : (pc : ℕ) (regs : Regs) (here : slice_get a.threads r.thread ≡ Some (running r.tie pc regs)) (es : List ChanEnd) → Has g r branch.items now → Has g r branch.items (record { core = step.left g r a pc regs regs here es; world = x.state; hand = None })
+  has_still pc regs here es h =
+      let then : ThreadView = record { core = step.left g r a pc regs regs here es; world = x.state; hand = None } in
+      record {
+        branch = h.branch;
+        runs = h.runs;
+        core = h.core;
+        holds = answers.store_as g r c a x.state now then refl refl h.holds;
+        ports = answers.ports_as g r c a x.state now then (λ p listed its. refl) h.ports;
+      }
+
+  -- the thread is at the next step of its transfer
+  later_steps : (phase later : Phase) (j fewer : ℕ) → steps_left later + j + cost g r ≤ fewer → (h : InTransfer g r (in_phase channel side phase) branch.items j now) → GoesWith later channel h.pos branch.items →
+      TakesSteps g r channel side h.pos (acts_left later) (IsBehind g r (items_behind later branch.items) j) (h.pc + 1) h.regs →
+      (es : List ChanEnd) →
+      StandsWith g (record r { transfer = Some (in_phase channel side later) }) false (Some (in_phase channel side later)) branch.items fewer (record { core = step.left g r a h.pc h.regs h.regs h.here es; world = x.state; hand = None })
+  later_steps phase later j fewer few h goes steps es =
+      let next = Some (in_phase channel side later) in (
+        j,
+        few,
+        record {
+          pos = h.pos;
+          on_time = refl;
+          goes_with = goes;
+          stands_in = h.stands_in;
+          no_hand = refl;
+          pc = h.pc + 1;
+          regs = h.regs;
+          here = gone_on g r a h.pc h.regs h.regs h.here es;
+          steps = steps_as g r next channel side h.pos (acts_left later) (items_behind later branch.items) j (h.pc + 1) h.regs steps;
+          fits = fits_as g r next branch.items stand.footprint h.fits;
+          has = has_as g r next branch.items (record { core = step.left g r a h.pc h.regs h.regs h.here es; world = x.state; hand = None }) (has_still h.pc h.regs h.here es h.has);
+        },
+      )
+
+  abbrev at_end : (phase : Phase) → r.transfer ≡ Some (in_phase channel side phase) → AtEnd thread_at channel side phase
+  at_end phase its = inside_there thread_at channel side phase its
+
+  -- END of an output
+  pub sends_end_followed : (v : ℕ) (its : r.transfer ≡ Some (in_phase channel side (sends_end v))) (j : ℕ) → 2 + j + cost g r ≤ stand.left →
+      InTransfer g r (in_phase channel side (sends_end v)) branch.items j now → Goal branch_at (at_end (sends_end v) its)
+  sends_end_followed v its j few h =
+      let here = at_end (sends_end v) its in
+      let later = awaits_ack (offers v) in
+      sends_row branch_at here h.pc h.regs h.here h.pos (control_token 1 ∷ []) (boxes branch_at here) later h.steps.0
+      (near.outct_end (near_end branch_at here) r.thread (running r.tie h.pc h.regs) v false here.stands)
+      (goes_row branch_at here h.pc h.regs h.here on (Some (in_phase channel side later)) later (stays_in refl) none_rests
+      (λ d u ne. refl) (1 + j + cost g r) (omega (arith, few))
+      (later_steps (sends_end v) later j (1 + j + cost g r) (omega arith) h h.goes_with
+      (end_sent g r channel side h.pos (IsBehind g r (all_but_first branch.items) j) h.pc h.regs v h.steps)))
+
+  -- CHKCT END of an input
+  pub checks_end_followed : (its : r.transfer ≡ Some (in_phase channel side checks_end)) (j : ℕ) → 2 + j + cost g r ≤ stand.left →
+      InTransfer g r (in_phase channel side checks_end) branch.items j now → Goal branch_at (at_end checks_end its)
+  checks_end_followed its j few h =
+      let here = at_end checks_end its in
+      ends_row branch_at here h.pc h.regs h.here h.pos sends_ack h.steps.0
+      (near.chkct_end (near_end branch_at here) r.thread (running r.tie h.pc h.regs) false here.stands)
+      (goes_row branch_at here h.pc h.regs h.here on (Some (in_phase channel side sends_ack)) sends_ack (stays_in refl) none_rests
+      (λ d u ne. refl) (1 + j + cost g r) (omega (arith, few))
+      (later_steps checks_end sends_ack j (1 + j + cost g r) (omega arith) h h.goes_with
+      (end_taken g r channel side h.pos (IsBehind g r branch.items j) h.pc h.regs h.steps)))
+
+  -- the thread has left its transfer, and is at the code of what is left, or on its way to the store of the word that has come in
+  module _ (j : ℕ) (h : InTransfer g r (in_phase channel side sends_ack) branch.items j now) (es : List ChanEnd) where
+    abbrev then : ThreadView
+    then = record { core = step.left g r a h.pc h.regs h.regs h.here es; world = x.state; hand = None }
+
+    abbrev out : Runner
+    out = record r { transfer = None }
+
+    out_here : slice_get then.core.threads r.thread ≡ Some (running r.tie (h.pc + 1) h.regs)
+    out_here = gone_on g r a h.pc h.regs h.regs h.here es
+
+    out_behind : IsBehind g r branch.items j (h.pc + 1) h.regs
+    out_behind = ack_sent g r channel side h.pos (IsBehind g r branch.items j) h.pc h.regs h.steps
+
+    left_it : StandsWith g out (rests_alone c t c t) None branch.items (j + cost g r) then
+    left_it =
+        inr (inr (subst (λ b. IfTrue g out b (IsAtRest g out branch.items (j + cost g r) then)) (sym (rests_there c t)) (
+          j,
+          omega arith,
+          refl,
+          rest_as g r None branch.items j then stand.footprint (record {
+            pc = h.pc + 1;
+            regs = h.regs;
+            here = here_at branch.items out_behind.1 out_here;
+            bases = out_behind.0;
+            stands = out_behind.2 then.core;
+            fits = h.fits;
+            has = has_still h.pc h.regs h.here es h.has;
+          }),
+        )))
+
+  -- ACK of an input
+  pub sends_ack_followed : (its : r.transfer ≡ Some (in_phase channel side sends_ack)) (j : ℕ) → 1 + j + cost g r ≤ stand.left →
+      InTransfer g r (in_phase channel side sends_ack) branch.items j now → Goal branch_at (at_end sends_ack its)
+  sends_ack_followed its j few h =
+      let here = at_end sends_ack its in
+      sends_row branch_at here h.pc h.regs h.here h.pos (control_token 3 ∷ []) (boxes branch_at here) between h.steps.0
+      (near.outct_ack (near_end branch_at here) r.thread (running r.tie h.pc h.regs) false here.stands)
+      (goes_row branch_at here h.pc h.regs h.here on None between (goes_out refl refl) (rests_alone c t)
+      (λ d u ne. alone_elsewhere c (nat_eq u t) d ne)
+      (j + cost g r) (omega (arith, few)) (left_it j h))

@@ -1,0 +1,130 @@
+-- The channel ends of a core, as its plan has them.
+use Rattle.std.proofs.Common.{◌≡◌, ⊎_elim, ℕ, zero, suc, ◌+◌, ◌<◌, ◌≤◌, true, List, [], ◌∷◌, ◌++◌, length, Some, nat_eq, slice_get, refl, sym, ap, ◌∙◌, arith}
+use Rattle.std.proofs.lemmas.Bool.{cases_lt}
+use Rattle.xc_kernel.specs.Plain as kernel
+use Rattle.xc_disjoint.specs.Checked.{IsChecked}
+use Rattle.xc_disjoint.specs.Cores.{if_so, on_core}
+use Rattle.xc_meaning.specs.States.Channels.{Side, first, second}
+use Rattle.xl_expr.specs.declared.plan.ResAt.TheVariants.{Fixed}
+use Rattle.xl_expr.specs.Plans.{end_in}
+use Rattle.xl_image.specs.Images.{IsPlan}
+use Rattle.xl_image.specs.Roots.{StayOnCores}
+use Rattle.xl_plan.specs.Layout.{end_name, end_places, ends_before, ends_below, first_there, places_on, second_there, side_cores}
+use Rattle.xl_plan.proofs.Ends.{few_ends}
+use Rattle.xl_ends.specs.Ends.{end_of_side, place_of}
+use Rattle.xr_simulation.specs.Runners.{EndIsPlanned, IsChannel, Runner, Setting, end_place, plan}
+use Rattle.xr_simulation.proofs.Image.Sides.{both, known}
+use Rattle.xr_simulation.proofs.Image.ResourceNames.{end_named}
+
+-- what is put behind a list stands there
+at_end : {A : Type 0} (xs : List A) (x : A) (n : ℕ) → n ≡ length xs → slice_get (xs ++ x ∷ []) n ≡ Some x
+at_end [] x zero e = refl
+at_end [] x (suc n) e = absurd (let z : ⊥ = omega (arith, e) in z)
+at_end (y ∷ ys) x zero e = absurd (let z : ⊥ = omega (arith, e) in z)
+at_end (y ∷ ys) x (suc n) e = at_end ys x n (omega (arith, e))
+
+before_end : {A : Type 0} (xs more : List A) (n : ℕ) (x : A) → slice_get xs n ≡ Some x → slice_get (xs ++ more) n ≡ Some x
+before_end [] more n x e = absurd cc
+before_end (y ∷ ys) more zero x e = e
+before_end (y ∷ ys) more (suc n) x e = before_end ys more n x e
+
+long : {A : Type 0} (xs : List A) (x : A) → length (xs ++ x ∷ []) ≡ suc (length xs)
+long [] x = refl
+long (y ∷ ys) x = ap suc (long ys x)
+
+-- the identifiers of ends are as many as these
+ends_long : (core n : ℕ) → length (ends_below core n) ≡ n
+ends_long core zero = refl
+ends_long core (suc n) = long (ends_below core n) (Fixed (end_name core n)) ∙ ap suc (ends_long core n)
+
+-- each end has its identifier
+end_at : (core n e : ℕ) → e < n → slice_get (ends_below core n) e ≡ Some (Fixed (end_name core e))
+end_at core zero e lt = absurd (omega (arith, lt))
+end_at core (suc n) e lt =
+    ⊎_elim
+    (λ (less : e < n). before_end (ends_below core n) (Fixed (end_name core n) ∷ []) e (Fixed (end_name core e)) (end_at core n e less))
+    (λ (le : n ≤ e).
+    let same : e ≡ n = omega (arith, lt, le) in
+    at_end (ends_below core n) (Fixed (end_name core n)) e (same ∙ sym (ends_long core n)) ∙ ap (λ k. Some (Fixed (end_name core k))) (sym same))
+    (cases_lt e n)
+
+module _ (K : kernel.Kernel) (core : ℕ) where
+  places_long : (n : ℕ) → length (end_places K core n) ≡ n
+  places_long zero = refl
+  places_long (suc n) = long (end_places K core n) (places_on K core n) ∙ ap suc (places_long n)
+
+  -- each channel has the numbers of its ends
+  places_at : (n c : ℕ) → c < n → slice_get (end_places K core n) c ≡ Some (places_on K core c)
+  places_at zero c lt = absurd (omega (arith, lt))
+  places_at (suc n) c lt =
+      ⊎_elim
+      (λ (less : c < n). before_end (end_places K core n) (places_on K core n ∷ []) c (places_on K core c) (places_at n c less))
+      (λ (le : n ≤ c).
+      let same : c ≡ n = omega (arith, lt, le) in
+      at_end (end_places K core n) (places_on K core n) c (same ∙ sym (places_long n)) ∙ ap (λ k. Some (places_on K core k)) (sym same))
+      (cases_lt c n)
+
+  -- its ends are among those of the channels behind it
+  more : (c n : ℕ) → c < n → ends_before K core (suc c) ≤ ends_before K core n
+  more c zero lt = absurd (omega (arith, lt))
+  more c (suc n) lt =
+      ⊎_elim
+      (λ (less : c < n). let before = more c n less in omega (arith, before))
+      (λ (le : n ≤ c).
+      let same : c ≡ n = omega (arith, lt, le) in
+      let here = ap (λ k. ends_before K core (suc k)) same in
+      omega (arith, here))
+      (cases_lt c n)
+
+-- an end on the core is one
+one_there : (core its : ℕ) → its ≡ core → on_core core its 1 ≡ 1
+one_there core its e = ap (λ b. if_so b 1) (let z : nat_eq its core ≡ true = grind (arith, e) in z)
+
+module _ (g : Setting) (checked : IsChecked g.program) (stay : StayOnCores g.program) (r : Runner) (is_core : r.core < 4) (planned : IsPlan g.program r.core (plan g r)) where
+  abbrev all : ℕ
+  all = ends_before g.program r.core (length g.program.channels)
+
+  few : all ≤ 32
+  few = few_ends g.program r.core checked (omega (arith, is_core))
+
+  -- The plan has the identifiers of both ends of a channel of the core's.
+  pub ends_planned : (c : ℕ) (side : Side) → IsChannel g r c → EndIsPlanned g r c side
+  ends_planned c side is = by side
+    where
+      first_one : first_there r.core (side_cores c g.program.roots) ≡ 1
+      first_one =
+          ap (first_there r.core) (known g.program stay r.core c is.used).are
+          ∙ one_there r.core (known g.program stay r.core c is.used).cores.first (both g.program stay r.core c is.used).0
+
+      second_one : second_there r.core (side_cores c g.program.roots) ≡ 1
+      second_one =
+          ap (second_there r.core) (known g.program stay r.core c is.used).are
+          ∙ one_there r.core (known g.program stay r.core c is.used).cores.second (both g.program stay r.core c is.used).1
+
+      inside : ends_before g.program r.core c + 2 ≤ all
+      inside =
+          let behind = more g.program r.core c (length g.program.channels) is.known in
+          let a = first_one in
+          let b = second_one in
+          omega (arith, behind, a, b)
+
+      places_are : slice_get (plan g r).channels c ≡ Some (places_on g.program r.core c)
+      places_are = ap (λ l. slice_get l c) planned.channels ∙ places_at g.program r.core (length g.program.channels) c is.known
+
+      -- an end has its identifier
+      identified : (e : ℕ) → e < all → end_in (plan g r).ends e ≡ Some (Fixed (end_name r.core e))
+      identified e lt = ap (λ l. slice_get l e) planned.ends ∙ end_at r.core all e lt
+
+      planned_at : (side : Side) → place_of (places_on g.program r.core c) side ≡ end_place g r c side → end_place g r c side < all → EndIsPlanned g r c side
+      planned_at side same lt =
+          let small = few in
+          record {
+            place = end_place g r c side;
+            is = ap (λ o. end_of_side o (Some side)) places_are ∙ ap Some same;
+            identifier = identified (end_place g r c side) lt;
+            names = end_named r.core (end_place g r c side) (omega (arith, lt, small));
+          }
+
+      by : (side : Side) → EndIsPlanned g r c side
+      by first = planned_at first refl (let i = inside in omega (arith, i))
+      by second = planned_at second refl (let i = inside in let a = first_one in omega (arith, i, a))

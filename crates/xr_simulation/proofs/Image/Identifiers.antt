@@ -1,0 +1,54 @@
+-- The identifiers by which a runner's code finds its ports and its channels' ends: the code's plan says where they are to be had, and
+-- they name these.
+use Rattle.std.proofs.Common.{◌≡◌, ℕ, ◌*◌, Some, refl}
+use Rattle.std.specs.Prelude.{slice_get}
+use Rattle.xs_instr.specs.Resources.{AnEnd, APort, named}
+use Rattle.xc_kernel.specs.declared.kernel.PortUse.{PortUse}
+use Rattle.xc_meaning.specs.States.Channels.{Side}
+use Rattle.xl_expr.specs.declared.plan.ResAt.{ResAt}
+use Rattle.xl_expr.specs.declared.plan.ResAt.TheVariants.{Fixed}
+use Rattle.xl_expr.specs.Identifiers.{IsIdentifier}
+use Rattle.xl_expr.specs.Plans.{end_in, resource_at}
+use Rattle.xl_plan.specs.Layout.{end_name, port_name}
+use Rattle.xl_ends.specs.Ends.{end_of_side}
+use Rattle.xr_simulation.specs.Runners.{Setting, Runner, IsChannel, IsLaidOut, IsPort, end_place, home, plan, port_place, relied}
+use Rattle.xr_simulation.specs.ThreadViews.{ThreadView}
+
+module _ (g : Setting) (r : Runner) where
+  -- an identifier that stands where the plan says names a port
+  pub record PortIsNamed (p : ℕ) (z : ThreadView) : Type 0 where
+    pub at : ResAt
+    pub planned : resource_at (plan g r).ports p ≡ Some at
+    pub is : IsIdentifier (relied g r) r.stack (4 * r.block.base) z.core.words at (port_name r.core (port_place g r p))
+    pub names : named (home g r).number (port_name r.core (port_place g r p)) ≡ APort (port_place g r p)
+
+  -- or a side's end
+  pub record EndIsNamed (c : ℕ) (side : Side) (z : ThreadView) : Type 0 where
+    pub end : ℕ
+    pub is_end : end_of_side (slice_get (plan g r).channels c) (Some side) ≡ Some end
+    pub at : ResAt
+    pub planned : end_in (plan g r).ends end ≡ Some at
+    pub is : IsIdentifier (relied g r) r.stack (4 * r.block.base) z.core.words at (end_name r.core (end_place g r c side))
+    pub names : named (home g r).number (end_name r.core (end_place g r c side)) ≡ AnEnd (end_place g r c side)
+
+  -- in the outermost block all of them are fixed
+
+  pub port_named : IsLaidOut g r → (z : ThreadView) (p : ℕ) (listed : PortUse) → IsPort g r p listed → PortIsNamed p z
+  port_named laid z p listed is = record {
+    at = Fixed (port_name r.core (port_place g r p));
+    planned = laid.identifiers p listed is;
+    is = refl;
+    names = laid.names p listed is;
+  }
+
+  pub end_named : IsLaidOut g r → (z : ThreadView) (c : ℕ) (side : Side) → IsChannel g r c → EndIsNamed c side z
+  end_named laid z c side used =
+      let planned = laid.ends c side used in
+      record {
+        end = planned.place;
+        is_end = planned.is;
+        at = Fixed (end_name r.core (end_place g r c side));
+        planned = planned.identifier;
+        is = refl;
+        names = planned.names;
+      }

@@ -1,0 +1,94 @@
+-- Where all roots that use a channel are on one core, both its sides are there.
+use Rattle.std.proofs.Common.{◌≡◌, ◌⊎◌, inl, inr, ⊎_elim, ℕ, zero, suc, Bool, true, false, List, [], ◌∷◌, Option, Some, None, slice_get, refl, sym, ap, subst, ◌∙◌, true≢false, arith}
+use Rattle.std.specs.Prelude.{◌&&◌, ◌||◌, cond, nat_eq}
+use Rattle.xc_kernel.specs.Plain as kernel
+use Rattle.xc_kernel.specs.Things.{channel, by_statements}
+use Rattle.xc_meaning.specs.States.Channels.{first, second}
+use Rattle.xc_meaning.proofs.Basics.{none_given, some_given}
+use Rattle.xl_image.specs.Images.{one_root_uses}
+use Rattle.xl_image.specs.Roots.{StayOnCores}
+use Rattle.xl_plan.specs.declared.channels.SideCores.{SideCores}
+use Rattle.xl_plan.specs.Layout.{core_in, is_used_by, is_used_on, second_or, side_cores}
+use Rattle.xr_simulation.specs.Wired.{AreSidesOn}
+
+both_true : (a b : Bool) → (a && b) ≡ true → (a ≡ true) × (b ≡ true)
+both_true true b e = (refl, e)
+both_true false b e = absurd (true≢false (sym e))
+
+or_true : (a b : Bool) → (a || b) ≡ true → (a ≡ true) ⊎ (b ≡ true)
+or_true true b e = inl refl
+or_true false b e = inr e
+
+eq_from : (a b : ℕ) → nat_eq a b ≡ true → a ≡ b
+eq_from a b e = grind arith
+
+-- a root of the core that uses it
+user_on : (core c : ℕ) (rs : List kernel.Root) → is_used_by core c rs ≡ true → (i : ℕ) × (r : kernel.Root) × (slice_get rs i ≡ Some r) × (r.core ≡ core) × (by_statements (channel c) r.body ≡ true)
+user_on core c [] e = absurd (true≢false (sym e))
+user_on core c (r ∷ rs) e =
+    ⊎_elim
+    (λ here. let both = both_true (nat_eq r.core core) (by_statements (channel c) r.body) here in (0, r, refl, eq_from r.core core both.0, both.1))
+    (λ later. let k = user_on core c rs later in (suc k.0, k.1, k.2, k.3, k.4))
+    (or_true (nat_eq r.core core && by_statements (channel c) r.body) (is_used_by core c rs) e)
+
+-- the cores of its sides are known
+pub record HasCores (c : ℕ) (rs : List kernel.Root) : Type 0 where
+  pub some : one_root_uses c rs ≡ true
+  pub cores : SideCores
+  pub are : side_cores c rs ≡ Some cores
+
+abbrev cores_of : (c : ℕ) (q : kernel.Root) (rs : List kernel.Root) → SideCores
+cores_of c q rs = record { first = q.core; second = second_or q.core (side_cores c rs) }
+
+cores_by : (c : ℕ) (q : kernel.Root) (rs : List kernel.Root) (b : Bool) → by_statements (channel c) q.body ≡ b → (by_statements (channel c) q.body ≡ true) ⊎ HasCores c rs → HasCores c (q ∷ rs)
+cores_by c q rs true e h = record {
+  some = ap (λ b. b || one_root_uses c rs) e;
+  cores = cores_of c q rs;
+  are = ap (λ b. cond b (Some (cores_of c q rs)) (side_cores c rs)) e;
+}
+cores_by c q rs false e (inl u) = absurd (true≢false (sym u ∙ e))
+cores_by c q rs false e (inr h) = record {
+  some = ap (λ b. b || one_root_uses c rs) e ∙ h.some;
+  cores = h.cores;
+  are = ap (λ b. cond b (Some (cores_of c q rs)) (side_cores c rs)) e ∙ h.are;
+}
+
+cores_known : (c : ℕ) (rs : List kernel.Root) (i : ℕ) (r : kernel.Root) → slice_get rs i ≡ Some r → by_statements (channel c) r.body ≡ true → HasCores c rs
+cores_known c [] i r e u = absurd (none_given e)
+cores_known c (q ∷ rs) zero r e u = cores_by c q rs (by_statements (channel c) q.body) refl (inl (ap (λ (x : kernel.Root). by_statements (channel c) x.body) (some_given e) ∙ u))
+cores_known c (q ∷ rs) (suc i) r e u = cores_by c q rs (by_statements (channel c) q.body) refl (inr (cores_known c rs i r e u))
+
+module _ (c core : ℕ) where
+  -- each root that uses it is on the core
+  abbrev UsersOn : List kernel.Root → Type 0
+  UsersOn rs = (i : ℕ) (r : kernel.Root) → slice_get rs i ≡ Some r → by_statements (channel c) r.body ≡ true → r.core ≡ core
+
+  abbrev CoresAre : Option SideCores → Type 0
+  CoresAre None = Unit {0}
+  CoresAre (Some cores) = (cores.first ≡ core) × (cores.second ≡ core)
+
+  last_here : (own : ℕ) (others : Option SideCores) → own ≡ core → CoresAre others → second_or own others ≡ core
+  last_here own None e h = e
+  last_here own (Some cores) e h = h.1
+
+  cores_here : (rs : List kernel.Root) → UsersOn rs → CoresAre (side_cores c rs)
+  cores_here [] on = tt
+  cores_here (r ∷ rs) on = by (by_statements (channel c) r.body) refl (cores_here rs (λ i q. on (suc i) q))
+    where
+      by : (b : Bool) → by_statements (channel c) r.body ≡ b → CoresAre (side_cores c rs) → CoresAre (cond b (Some (cores_of c r rs)) (side_cores c rs))
+      by true e behind = let own = on 0 r refl e in (own, last_here r.core (side_cores c rs) own behind)
+      by false e behind = behind
+
+-- A channel that is used on a core has both sides there.
+module _ (K : kernel.Kernel) (stay : StayOnCores K) (core c : ℕ) (used : is_used_on K core c ≡ true) where
+  pub known : HasCores c K.roots
+  known = let u = user_on core c K.roots used in cores_known c K.roots u.0 u.1 u.2 u.4
+
+  pub both : CoresAre c core (Some known.cores)
+  both =
+      let u = user_on core c K.roots used in
+      subst (CoresAre c core) known.are (cores_here c core K.roots (λ i r e uses. stay c i u.0 r u.1 e u.2 uses u.4 ∙ u.3))
+
+  pub sides_on : AreSidesOn K c core
+  sides_on first = ap (λ o. core_in o first) known.are ∙ both.0
+  sides_on second = ap (λ o. core_in o second) known.are ∙ both.1

@@ -1,0 +1,102 @@
+-- Where a thread stands between two own steps: at code, whatever the core is, and with another footprint or transfer.
+use Rattle.std.proofs.Common.{◌≡◌, ℕ, true, [], ◌∷◌, List, Option, sym, ◌∙◌, ⊎_elim}
+use Rattle.std.proofs.lemmas.Bool.{eqb-true, or_cases}
+use Rattle.xs_instr.specs.declared.state.CoreState.{CoreState}
+use Rattle.xs_instr.specs.declared.state.Regs.{Regs}
+use Rattle.xs_instr.specs.declared.state.Res.{Res}
+use Rattle.xs_instr.specs.declared.state.Res.TheVariants.{End as ResEnd, Port as ResPort, Timer as ResTimer}
+use Rattle.xc_kernel.specs.declared.statement.KRes.TheVariants.{Port, Timer, Chan}
+use Rattle.xc_kernel.specs.declared.kernel.PortUse.{PortUse}
+use Rattle.xc_meaning.specs.States.Items.{Item, does, says, stores, stamps, mark, awaits, transaction_end, chooses, fixed, ends}
+use Rattle.xl_statements.specs.Pieces.{Exit}
+use Rattle.xr_simulation.specs.Fits.{ItemsFit}
+use Rattle.xr_simulation.specs.Runners.{Footprint, IsMine, IsPort, Setting, Runner, port_place}
+use Rattle.xr_simulation.specs.Transfers.{Transfer}
+use Rattle.xr_simulation.specs.Turns.{ItemsFrom, SameParts, StandsAt, is_port_number, stands_on_part}
+
+module _ (g : Setting) (r : Runner) where
+  -- a port that the runner has is its own
+  port_own : (p : ℕ) (listed : PortUse) → IsPort g r p listed → (part : Res) → is_port_number (port_place g r p) part ≡ true → IsMine g r part
+  port_own p listed is (ResPort n) e = record { port = p; listed = listed; is = is; place = sym (eqb-true (port_place g r p) n e) }
+  port_own p listed is (ResTimer n) e = absurd (cc)
+  port_own p listed is (ResEnd n) e = absurd (cc)
+
+  -- what the runner stands on is its own
+  pub parts_own : (items : List Item) (part : Res) → ItemsFit g r items → stands_on_part g r.core items part ≡ true → IsMine g r part
+  parts_own [] part fits on = absurd (cc)
+  parts_own (does s ∷ rest) part fits on = absurd (cc)
+  parts_own (says i ∷ rest) part fits on = absurd (cc)
+  parts_own (stores place v ∷ rest) part fits on = parts_own rest part fits.1 on
+  parts_own (stamps (Port p) place v ∷ rest) part fits on =
+      ⊎_elim (λ here. port_own p fits.0.0.0 fits.0.0.1 part here) (λ there. parts_own rest part fits.1 there)
+      (or_cases (is_port_number (port_place g r p) part) (stands_on_part g r.core rest part) on)
+  parts_own (stamps (Timer t) place v ∷ rest) part fits on = absurd (cc)
+  parts_own (stamps (Chan n) place v ∷ rest) part fits on = absurd (cc)
+  parts_own (mark n ∷ rest) part fits on = absurd (cc)
+  parts_own (awaits n pos ∷ rest) part fits on = absurd (cc)
+  parts_own (transaction_end n is_master pos ∷ rest) part fits on = absurd (cc)
+  parts_own (chooses choices otherwise ∷ rest) part fits on = absurd (cc)
+  parts_own (fixed i v counter ∷ rest) part fits on = absurd (cc)
+  parts_own (ends ∷ rest) part fits on = absurd (cc)
+
+  -- where the code of items stands
+  pub items_stand : (items : List Item) (exits : List Exit) (pc j : ℕ) (regs : Regs) (core : CoreState) → ItemsFrom g r items exits pc j →
+      StandsAt g r items j pc regs core
+  items_stand [] exits pc j regs core h = absurd h
+  items_stand (does s ∷ rest) exits pc j regs core h = (exits, h)
+  items_stand (says i ∷ rest) exits pc j regs core h = (exits, h)
+  items_stand (stores place v ∷ rest) exits pc j regs core h = absurd h.stands
+  items_stand (stamps resource place v ∷ rest) exits pc j regs core h = (exits, h)
+  items_stand (mark n ∷ rest) exits pc j regs core h = (exits, h)
+  items_stand (awaits c pos ∷ rest) exits pc j regs core h = (exits, h)
+  items_stand (transaction_end c is_master pos ∷ rest) exits pc j regs core h = (exits, h)
+  items_stand (chooses choices otherwise ∷ rest) exits pc j regs core h = (exits, h)
+  items_stand (fixed i v counter ∷ rest) exits pc j regs core h = (exits, h)
+  items_stand (ends ∷ rest) exits pc j regs core h = (exits, h)
+
+  -- it stands so in another core too that has the same of the parts on which it stands
+  pub stands_kept : (items : List Item) (j pc : ℕ) (regs : Regs) (a b : CoreState) → SameParts g r.core items a b →
+      StandsAt g r items j pc regs a → StandsAt g r items j pc regs b
+  stands_kept [] j pc regs a b same h = h
+  stands_kept (does s ∷ rest) j pc regs a b same h = h
+  stands_kept (says i ∷ rest) j pc regs a b same h = h
+  stands_kept (stores place v ∷ rest) j pc regs a b same (stored, word, lines, unwatched, next) = (
+    stored,
+    word,
+    lines,
+    unwatched,
+    λ regs' core' bases still. next regs' core' bases
+        (λ part on. still part on ∙ same part on),
+  )
+  stands_kept (stamps resource place v ∷ rest) j pc regs a b same h = h
+  stands_kept (mark n ∷ rest) j pc regs a b same h = h
+  stands_kept (awaits c pos ∷ rest) j pc regs a b same h = h
+  stands_kept (transaction_end c is_master pos ∷ rest) j pc regs a b same h = h
+  stands_kept (chooses choices otherwise ∷ rest) j pc regs a b same h = h
+  stands_kept (fixed i v counter ∷ rest) j pc regs a b same h = h
+  stands_kept (ends ∷ rest) j pc regs a b same h = h
+
+  -- The same runner with another footprint, or in another transfer.
+  module _ (footprint : Footprint) (transfer : Option Transfer) where
+    abbrev pub other : Runner
+    other = record r { footprint = footprint; transfer = transfer }
+
+    pub stands_on : (items : List Item) (j pc : ℕ) (regs : Regs) (core : CoreState) → StandsAt g r items j pc regs core →
+        StandsAt g other items j pc regs core
+    stands_on [] j pc regs core h = h
+    stands_on (does s ∷ rest) j pc regs core h = h
+    stands_on (says i ∷ rest) j pc regs core h = h
+    stands_on (stores place v ∷ rest) j pc regs core (stored, word, lines, unwatched, next) = (
+      stored,
+      word,
+      lines,
+      unwatched,
+      λ regs' core' bases still. stands_on rest j stored regs' core' (next regs' core' bases still),
+    )
+    stands_on (stamps resource place v ∷ rest) j pc regs core h = h
+    stands_on (mark n ∷ rest) j pc regs core h = h
+    stands_on (awaits c pos ∷ rest) j pc regs core h = h
+    stands_on (transaction_end c is_master pos ∷ rest) j pc regs core h = h
+    stands_on (chooses choices otherwise ∷ rest) j pc regs core h = h
+    stands_on (fixed i v counter ∷ rest) j pc regs core h = h
+    stands_on (ends ∷ rest) j pc regs core h = h

@@ -1,0 +1,116 @@
+-- What code needs of the runner whose branch has it to do: that it uses and changes what is in the runner's footprint, and counts no more than
+-- the bound on steps allows.
+use Rattle.std.specs.Prelude.{◌≡◌, ℕ, ◌<◌, ◌≤◌, true, List, [], ◌∷◌, Option, Some, None}
+use Rattle.xs_instr.specs.Ports.{can_send}
+use Rattle.xc_kernel.specs.declared.kernel.PortUse.{PortUse}
+use Rattle.xc_kernel.specs.declared.statement.KRes.{KRes}
+use Rattle.xc_kernel.specs.declared.statement.KRes.TheVariants.{Port, Timer, Chan}
+use Rattle.xc_kernel.specs.Plain as kernel
+use Rattle.xc_meaning.specs.Counts.KernelCounts.{greatest_count, of_place, of_statement, words_in}
+use Rattle.xc_meaning.specs.States.Items.{Item, awaits, does, stores, stamps}
+use Rattle.xl_expr.specs.declared.plan.VarPlan.{VarPlan}
+use Rattle.xl_expr.specs.Frames.{HasVars, HasPlace, variable_of}
+use Rattle.xl_expr.specs.Plans.{var_in}
+use Rattle.xl_image.specs.Images.{dir_of}
+use Rattle.xr_simulation.specs.Runners.{Setting, Runner, IsChannel, IsPort, anyone, places, plan}
+
+module _ (g : Setting) (r : Runner) where
+  -- no statement of the program counts more
+  abbrev pub greatest : ℕ
+  greatest = greatest_count g.program
+
+  abbrev pub IsCounted : kernel.Statement → Type 0
+  IsCounted s = of_statement g.program.variables s ≤ greatest
+
+  -- the variables of an expression are the runner's
+  abbrev pub Uses : kernel.Expression → Type 0
+  Uses x = HasVars (plan g r).vars r.footprint.uses x
+
+  abbrev pub UsesAt : kernel.Place → Type 0
+  UsesAt p = HasPlace (plan g r).vars r.footprint.uses p
+
+  abbrev pub UsesSome : Option kernel.Expression → Type 0
+  UsesSome None = Unit {0}
+  UsesSome (Some x) = Uses x
+
+  -- a variable that the runner may change, with some words, of which the plan has as many as the program
+  pub record IsChanged (v : ℕ) : Type 0 where
+    pub found : VarPlan
+    pub known : var_in (places g r.core) v ≡ Some found
+    pub words : found.words ≡ words_in g.program.variables v
+    pub some : 0 < found.words
+    pub uses : r.footprint.uses v ≡ true
+    pub changes : r.footprint.changes v ≡ true
+
+  -- a place that the runner may change
+  abbrev pub ChangesAt : Option kernel.Place → Type 0
+  ChangesAt None = Unit {0}
+  ChangesAt (Some place) = UsesAt place × (r.footprint.changes (variable_of place) ≡ true)
+
+  -- a port by which the runner may put words out
+  pub record IsOutPort (p : ℕ) : Type 0 where
+    pub listed : PortUse
+    pub is : IsPort g r p listed
+    pub sends : can_send (dir_of listed.dir) ≡ true
+
+  abbrev pub PutsOutAt : KRes → Type 0
+  PutsOutAt (Port p) = IsOutPort p
+  PutsOutAt (Timer t) = Unit {0}
+  PutsOutAt (Chan c) = IsChannel g r c
+
+  abbrev pub TakesInAt : KRes → Type 0
+  TakesInAt (Port p) = Unit {0}
+  TakesInAt (Timer t) = Unit {0}
+  TakesInAt (Chan c) = IsChannel g r c
+
+  pub record OutputFits (o : kernel.Output) : Type 0 where
+    pub time : UsesSome o.time
+    pub value : Uses o.value
+    pub to : PutsOutAt o.resource
+
+  pub record InputFits (i : kernel.Input) : Type 0 where
+    pub target : ChangesAt i.target
+    pub from : TakesInAt i.resource
+
+  -- an exit needs nothing, and of what isn't built nothing is said
+  abbrev mutual
+    pub Fits : kernel.Statement → Type 0
+    Fits (kernel.set_zero v) = IsChanged v × IsCounted (kernel.set_zero v)
+    Fits (kernel.set place x) =
+        UsesAt place × Uses x × (r.footprint.changes (variable_of place) ≡ true) × IsCounted (kernel.set place x)
+    Fits (kernel.output o) = OutputFits o × IsCounted (kernel.output o)
+    Fits (kernel.input i) = InputFits i × IsCounted (kernel.input i)
+    Fits (kernel.if_then x a b) = Uses x × AllFit a × AllFit b × IsCounted (kernel.if_then x a b)
+    Fits (kernel.loop x a b) = Uses x × AllFit a × AllFit b × IsCounted (kernel.loop x a b)
+    Fits (kernel.block n a) = AllFit a
+    Fits (kernel.par bs) = BranchesFit bs × IsCounted (kernel.par bs)
+    Fits other = Unit {0}
+
+    pub AllFit : kernel.Statements → Type 0
+    AllFit kernel.no_more = Unit {0}
+    AllFit (kernel.more s ss) = Fits s × AllFit ss
+
+    pub BranchesFit : kernel.Branches → Type 0
+    BranchesFit kernel.no_branch = Unit {0}
+    BranchesFit (kernel.more_branches (kernel.branch ss pos) bs) = AllFit ss × BranchesFit bs
+
+  -- what has a stamp
+  abbrev pub StampsAt : KRes → Type 0
+  StampsAt (Port p) = (listed : PortUse) × IsPort g r p listed
+  StampsAt (Timer t) = ⊥
+  StampsAt (Chan c) = ⊥
+
+  abbrev pub ItemFits : Item → Type 0
+  ItemFits (does s) = Fits s
+  ItemFits (stores place v) = ChangesAt (Some place) × (of_place place ≤ greatest)
+  ItemFits (stamps resource place v) = StampsAt resource × ChangesAt (Some place) × (of_place place ≤ greatest)
+  ItemFits (awaits c pos) = IsChannel g r c
+  ItemFits other = Unit {0}
+
+  abbrev pub ItemsFit : List Item → Type 0
+  ItemsFit [] = Unit {0}
+  ItemsFit (i ∷ items) = ItemFits i × ItemsFit items
+
+-- the same of a core, whoever runs them
+abbrev pub FitOn : Setting → (core : ℕ) → List Item → Type 0
+FitOn g core items = ItemsFit g (anyone core) items
