@@ -80,7 +80,7 @@ class Deep:
 
 
 def case(name: str, text: list[str], listing: list[str]) -> str:
-    """A case of the program of crates/xl_texts."""
+    """A case of the program of crates/xt_programs."""
     return "\n".join([f"case {name}", *(f"| {line}" for line in text), *(f"= {line}" for line in listing)]) + "\n"
 
 

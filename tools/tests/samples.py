@@ -102,7 +102,7 @@ def refused_texts() -> Iterator[tuple[str, int, int, int]]:
 
 
 def runs_of_examples() -> str:
-    """The examples as cases of crates/xl_texts/data: behind `|` the lines of a program, behind `=` those of its trace."""
+    """The examples as cases of crates/xt_programs/data: behind `|` the lines of a program, behind `=` those of its trace."""
     head = "# Runs of the examples. tools/runs writes this file, from examples/NAME.xc and examples/NAME.trace. README.md tells its form.\n"
     cases = [head]
     for name in PROGRAMS:

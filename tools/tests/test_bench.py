@@ -295,5 +295,5 @@ class Refusals(unittest.TestCase):
     def test_case(self):
         cases = "case a\n1\n\ncase room that is asked for\n2\n\ncase c\n3\n"
         self.assertEqual(refusals.room_case(cases), "case room that is asked for\n2\n\n")
-        kept = written(os.path.join(TOP, "crates", "xr_turns", "data", "turns.txt"))
+        kept = written(os.path.join(TOP, "crates", "xt_core", "data", "turns.txt"))
         self.assertTrue(refusals.room_case(kept).startswith("case room that is asked for"))

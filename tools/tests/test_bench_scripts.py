@@ -20,7 +20,7 @@ LINES = {
     "time_flat": "1 instances 2 variables rule 0 40 microseconds\n1 instances 2 variables rule 0 34 microseconds",
     "time_core": "3200 50\n3200 20\n3200 40",
     "time_windows": "34 56",
-    "xr_turns": "turns.txt: 1 cases, 0 differ",
+    "xt_core": "turns.txt: 1 cases, 0 differ",
 }
 RT = """\
 #!/bin/sh
@@ -33,7 +33,7 @@ esac
 """
 BUILD = "#!/bin/sh\nmkdir -p crates/$1/out; cp '{programs}/'$1 crates/$1/out/\n"
 VALGRIND = '#!/bin/sh\nfor last; do :; done\n[ "$last" = 0 ] && echo "==1== Collected : 1000" >&2 || echo "==1== Collected : 21000" >&2\n'
-XL_TEXTS = "#!/bin/sh\nif grep -q copies listings.txt; then echo a case is too long; else echo listings.txt: 1 cases, 0 differ; fi\n"
+XT_PROGRAMS = "#!/bin/sh\nif grep -q copies listings.txt; then echo a case is too long; else echo listings.txt: 1 cases, 0 differ; fi\n"
 XCSIM = "#!/bin/sh\ncase $1 in\nasm) printf '0: LDC r0, 1 @1:1\\n1: BRBU 0 @1:1\\n' ;;\n*) exit 4 ;;\nesac\n"
 WANTS = r"""
 #include <stdlib.h>
@@ -58,7 +58,7 @@ class Scripts(unittest.TestCase):
         shutil.copytree(os.path.join(TOP, "examples"), os.path.join(cls.top, "examples"))
         for name in os.listdir(os.path.join(TOP, "crates")):
             os.makedirs(os.path.join(cls.top, "crates", name))
-        for path in (("xc_disjoint", "src"), ("xc_cases", "proofs"), ("xr_turns", "data")):
+        for path in (("xc_disjoint", "src"), ("xt_front", "proofs"), ("xt_core", "data")):
             os.symlink(os.path.join(TOP, "crates", *path), os.path.join(cls.top, "crates", *path))
         for name in ("crates.txt", "HANDLES"):
             shutil.copy(os.path.join(TOP, name), cls.top)
@@ -70,7 +70,7 @@ class Scripts(unittest.TestCase):
         cls.put(BUILD.format(programs=programs), cls.top, "tools", "build")
         cls.put("#!/bin/sh\n", cls.top, "xcsim")
         cls.put(XCSIM, cls.top, "crates", "xcsim", "out", "xcsim")
-        cls.put(XL_TEXTS, cls.top, "crates", "xl_texts", "out", "xl_texts")
+        cls.put(XT_PROGRAMS, cls.top, "crates", "xt_programs", "out", "xt_programs")
 
     @staticmethod
     def put(text, *path):
@@ -197,7 +197,7 @@ class Scripts(unittest.TestCase):
         turns = WANTS.replace('"trace\\n", 6) - 6', '"turns.txt: 1 cases, 0 differ\\n", 29) - 29')
         turns = turns.replace("if (!malloc(8)) return", "free(malloc(8)); if (!malloc(8)) return")
         self.put(turns, source)
-        subprocess.run(["cc", "-o", os.path.join(self.room.name, "programs", "xr_turns"), source], check=True)
+        subprocess.run(["cc", "-o", os.path.join(self.room.name, "programs", "xt_core"), source], check=True)
         found = self.tables("refuse_memory")
         wanted = {"status": 0, "of the words": 1, "out of memory": 1, "without effect": 1, "wrong": 0}
         self.assertEqual(found["calls"][0], {"call": "run pulse.xc", **wanted})

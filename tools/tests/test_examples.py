@@ -11,7 +11,7 @@ from .test_commands import called
 from .test_diagram import drawn
 
 PROGRAM = os.path.join(TOP, "crates", "xcsim", "out", "xcsim")
-RUNS = os.path.join(TOP, "crates", "xl_texts", "data", "runs.txt")
+RUNS = os.path.join(TOP, "crates", "xt_programs", "data", "runs.txt")
 STATUS = {"finished": 0, "trapped": 3, "stopped": 4, "stuck": 5}
 
 # without a model: their traces were worked out by hand

@@ -1,5 +1,0 @@
-use Rattle.xl_tests.proofs.Aimed.{whole_closed}
-use Rattle.xl_tests.proofs.machine.finished.Goals as goal
-
-pub finish-requires : goal.finish-requires
-finish-requires c = whole_closed c.args.e c.put.new.self (record { line = 1; col = 1 }) c.requires.aimed c.in_ok-put.ensures.ok

@@ -1,5 +1,0 @@
-use Rattle.xl_tests.proofs.Aimed.{aimed_on}
-use Rattle.xl_tests.proofs.statements.add_output.Goals as goal
-
-pub returns : goal.returns
-returns c = record { aimed = aimed_on c.args.e.now c.emit_port_out-added.new.e c.requires.aimed c.in_ok-added.ensures.aimed }

@@ -1,0 +1,17 @@
+//! What the lexer makes of a text.
+
+ghost use Rattle.std.specs.Prelude.{◌≤◌, length};
+
+use crate::shown::{Page, put_tokens};
+use std::alloc::Global;
+use xc_lexer::lex;
+
+/// The tokens of a text, parted by `, `, or its first broken rule.
+pub fn put_lexed(page: &mut Page, alloc: Global, text: &[u8])
+    requires { length text.now ≤ 4194304 }
+{
+    match lex(alloc, text) {
+        Ok(toks) => put_tokens(page, toks.as_slice()),
+        Err(e) => page.show(&e),
+    }
+}
