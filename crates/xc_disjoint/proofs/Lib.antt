@@ -1,4 +1,4 @@
-mod Steps
+pub mod Steps
 mod ThreadSteps
 mod Entries
 mod SideSteps
@@ -9,3 +9,16 @@ mod RootEnds
 mod Firsts
 mod Whole
 mod NeedsExamples
+pub mod FirstSoFar
+pub mod FootprintSteps
+pub mod Sets
+pub mod Meets
+pub mod Covered
+pub mod Clashing
+pub mod CodeSteps
+pub mod ChannelSteps
+pub mod UseEntries
+pub mod Users
+pub mod Holding
+pub mod WholeUses
+pub mod Judging

@@ -12,8 +12,8 @@ use Rattle.xc_kernel.specs.declared.statement.KRes.{KRes}
 use Rattle.xc_kernel.specs.declared.statement.KRes.TheVariants.{Port, Timer, Chan}
 use Rattle.xc_kernel.specs.Plain as kernel
 use Rattle.xc_kernel.specs.Branches.{all_pars}
-use Rattle.xc_apart.specs.Clashes.{Clashes}
-use Rattle.xc_sides.specs.Rules.{WithoutSides}
+use Rattle.xc_disjoint.specs.Clashes.{Clashes}
+use Rattle.xc_disjoint.specs.SideRules.{WithoutSides}
 use Rattle.xc_disjoint.specs.Disjoint.{NotApart, clash, without_sides}
 use Rattle.xc_disjoint.specs.Cores.{no_core}
 use Rattle.xc_disjoint.specs.Leasts.{first_among, IsBrokenBy}

@@ -2,8 +2,8 @@
 use Rattle.xw_words.specs.declared.pos.Broken.{Broken}
 use Rattle.xc_kernel.specs.Plain as kernel
 use Rattle.xc_kernel.specs.Branches.{all_pars}
-use Rattle.xc_apart.specs.Clashes.{Clashes}
-use Rattle.xc_sides.specs.Rules.{WithoutSides}
+use Rattle.xc_disjoint.specs.Clashes.{Clashes}
+use Rattle.xc_disjoint.specs.SideRules.{WithoutSides}
 
 -- Branches don't keep apart, and where: a variable that one branch of a `par` changes is used in another (601), or a port (602) or a
 -- timer (606) in both, at the later branch; or two branches aren't the sides of a channel (603 to 605).

@@ -10,3 +10,10 @@ pub mod Tables
 pub mod Leasts
 pub mod Places
 pub mod Sums
+pub mod Clashes
+pub mod Footprints
+pub mod Behind
+pub mod SideRules
+pub mod Uses
+pub mod UseTables
+pub mod Judged

@@ -8,13 +8,13 @@ ghost use Rattle.xc_tree.specs.Least.{IsFirst, IsLeastOf};
 ghost use Rattle.xc_tree.specs.Refusals.{IfBroken};
 
 use crate::checked::Checked;
+use crate::clashes::first_clash;
+use crate::judge::first_without_sides;
 use crate::needs::{too_many_ends, too_many_threads, too_many_timers, too_many_words};
 use crate::places::{first_of_ports, first_of_roots};
 use crate::ports::first_elsewhere;
 use std::alloc::Global;
-use xc_apart::first_clash;
 use xc_kernel::Kernel;
-use xc_sides::first_without_sides;
 use xc_tree::{Refusal, earlier};
 use xw_words::{Broken, Memory};
 

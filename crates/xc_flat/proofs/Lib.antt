@@ -1,1 +1,3 @@
 mod Handed
+pub mod Ports
+pub mod Results

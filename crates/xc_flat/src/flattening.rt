@@ -9,8 +9,8 @@ ghost use Rattle.xc_tree.specs.Refusals.{IfBroken};
 ghost use Rattle.xc_tree.specs.Trees.{program_of};
 ghost use Rattle.xc_tree.specs.Types.Named.{named_of};
 
+use crate::program::copy;
 use std::alloc::Global;
-use xc_copy::copy;
 use xc_kernel::Kernel;
 use xc_size::broken_size;
 use xc_tree::{Refusal, Typed};

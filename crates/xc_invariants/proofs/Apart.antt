@@ -12,7 +12,7 @@ use Rattle.xc_invariants.specs.Every.{AllItems, EveryItem}
 use Rattle.xc_invariants.specs.Each.{EachItem}
 use Rattle.xc_invariants.specs.Tree.{IsForest, Unrelated}
 use Rattle.xc_kernel.specs.Branches.{branches_of}
-use Rattle.xc_apart.specs.Clashes.{Clash, changed, used, of_port, of_timer}
+use Rattle.xc_disjoint.specs.Clashes.{Clash, changed, used, of_port, of_timer}
 use Rattle.xc_invariants.specs.Rules.{AreApart, CodesApart, AllApart, AnyThing, AnyPar, AnyTransaction, IsApart}
 use Rattle.xc_meaning.specs.Outline.{Becomes, Moved}
 use Rattle.xc_invariants.proofs.EveryItem.{every_branches}

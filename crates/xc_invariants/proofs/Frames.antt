@@ -12,7 +12,7 @@ use Rattle.xc_meaning.specs.Runs.{step_of}
 use Rattle.xc_kernel.specs.Things.{variable, change, by_expression, by_operands, by_place}
 use Rattle.xc_meaning.specs.Uses.{by_items}
 use Rattle.xc_invariants.specs.Tree.{IsWaiting}
-use Rattle.xc_apart.specs.Clashes.{changed}
+use Rattle.xc_disjoint.specs.Clashes.{changed}
 use Rattle.xc_invariants.specs.Lawful.{Lawful, UsedBefore, by_itself, by_maker, FootprintsShrink, OthersAreLeft, KernelsAt}
 use Rattle.xc_invariants.specs.Each.{EachItem}
 use Rattle.xc_invariants.specs.Every.{AllItems}

@@ -18,9 +18,9 @@ use Rattle.xc_kernel.specs.Uses as uses
 use Rattle.xc_kernel.specs.Uses.{Use, count_of}
 use Rattle.xc_kernel.specs.Pars as pars
 use Rattle.xc_kernel.specs.Branches.{all_pars, branch_at, pos_of, uses_in}
-use Rattle.xc_apart.specs.Clashes.{Clash, changed, used, of_port, of_timer, rule_against}
+use Rattle.xc_disjoint.specs.Clashes.{Clash, changed, used, of_port, of_timer, rule_against}
 use Rattle.xc_disjoint.specs.Disjoint.{NotApart, clash, without_sides}
-use Rattle.xc_sides.specs.Rules.{IsUser, IsInnermost, third, one_sided, second_inside}
+use Rattle.xc_disjoint.specs.SideRules.{IsUser, IsInnermost, third, one_sided, second_inside}
 use Rattle.xc_meaning.proofs.Basics.{some_given, none_given, true_or_false, same_or_not}
 use Rattle.xc_wellformed.proofs.FineSites.{all_by_place}
 use Rattle.xc_wellformed.proofs.Walk.Arguments.{AllIn, split}

@@ -4,7 +4,7 @@ use Rattle.xc_kernel.specs.Plain as kernel
 use Rattle.xc_meaning.specs.States.Items.{Item}
 use Rattle.xc_kernel.specs.Things.{Thing, by_statements}
 use Rattle.xc_kernel.specs.Branches.{branches_of}
-use Rattle.xc_apart.specs.Clashes.{Clash}
+use Rattle.xc_disjoint.specs.Clashes.{Clash}
 use Rattle.xc_meaning.specs.Uses.{by_items}
 use Rattle.xc_invariants.specs.Every.{EveryBranches}
 

@@ -14,7 +14,7 @@ use Rattle.xc_tree.specs.Plain as plain
 use Rattle.xc_tree.specs.Names.Marks.{of_items, of_program}
 use Rattle.xc_tree.specs.Names.Scopes.{Means, IsWithin}
 use Rattle.xc_tree.specs.Names.Calls.{first_of, IsInItem, CallsAt, Reaches, directly, through}
-use Rattle.xc_marks.specs.Starts.{AreStarts}
+use Rattle.xc_names.specs.Starts.{AreStarts}
 use Rattle.xc_tree.specs.Least.{IsLeastOf}
 use Rattle.xc_names.specs.Meanings.{AreMeanings, Meaning, means, unknown}
 use Rattle.xc_names.specs.Callees.{called_at, declared_function, function_of, IsCall}

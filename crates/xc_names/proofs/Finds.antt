@@ -2,7 +2,7 @@
 use Rattle.std.proofs.Common.{◌≡◌, ℕ, suc, ◌+◌, ◌-◌, ◌<◌, ◌≤◌, List, [], ◌∷◌, ◌++◌, length, get_or, slice_get, Option, None, Some, refl, sym, subst, ◌∙◌, arith}
 use Rattle.std.proofs.lemmas.Option.{slice_get-get_or, slice_get_within, get_or_from_slice_get}
 use Rattle.xc_names.specs.Reads.{EndsBehind, behind, Finds, nothing, open_still, ended, IsFound}
-use Rattle.xc_marks.proofs.Lists.{push_before}
+use Rattle.xc_names.proofs.Lists.{push_before}
 
 -- what is found from the next one is found from the first, and there is such
 pub record Leads (ends : List ℕ) (outer : List (Option ℕ)) (u : ℕ) (from next : Option ℕ) : Type 0 where

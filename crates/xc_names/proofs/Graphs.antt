@@ -7,13 +7,13 @@ use Rattle.xw_words.specs.declared.pos.Broken.{Broken}
 use Rattle.xc_tree.specs.declared.names.Mark.{Mark}
 use Rattle.xc_tree.specs.Lexes.{IsNotAfter}
 use Rattle.xc_names.specs.declared.calls.Call.{Call}
-use Rattle.xc_marks.specs.declared.graph.Edge.{Edge}
+use Rattle.xc_names.specs.declared.graph.Edge.{Edge}
 use Rattle.xc_tree.specs.Least.{IsLeastOf, comes_before}
 use Rattle.xc_names.specs.Callees.{IsCall, FoundCall, a_call, no_call}
 use Rattle.xc_names.specs.Searches.{IsStep, AreBounds, IsReached, itself, further, IsBackTo, IsBackToOne}
 use Rattle.xc_names.specs.Graphs.{HasEdge, IsLonger, HasCall, HasCalls, number_in, NeverRises, rule_at, IsNotLater, IsFirstLevel, first_edge, level_edge, no_later}
 use Rattle.xc_tree.proofs.Leasts.{before, not_before, not_after_self, not_after_trans, none_broken}
-use Rattle.xc_marks.proofs.Lists.{below_or_at, push_before, push_at}
+use Rattle.xc_names.proofs.Lists.{below_or_at, push_before, push_at}
 use Rattle.xc_names.proofs.Searches.{one_call}
 
 some_same : {A : Type 0} (a b : A) → Some a ≡ Some b → a ≡ b

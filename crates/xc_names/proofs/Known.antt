@@ -7,7 +7,7 @@ use Rattle.xc_tree.specs.declared.names.Mark.TheVariants.{Opens, Closes, Declare
 use Rattle.xc_tree.specs.Names.Scopes.{to_end, end_of, DeclaresAt, IsKnown, IsWithin}
 use Rattle.xc_names.specs.Meanings.{spelling_of, IsSpelledAt, Meaning, means, unknown}
 use Rattle.xc_names.specs.Reads.{IsSeen, Answer, best, none_known}
-use Rattle.xc_marks.proofs.Lists.{below_or_at, drop_found}
+use Rattle.xc_names.proofs.Lists.{below_or_at, drop_found}
 
 -- more scopes that have begun since end no later
 to_end_mono : (ms : List Mark) (j k : ℕ) → j ≤ k → to_end j ms ≤ to_end k ms

@@ -16,3 +16,8 @@ pub mod Together
 pub mod Declared
 pub mod Bounds
 pub mod OneNaming
+pub mod Depths
+pub mod Steps
+pub mod Bodies
+pub mod Lists
+pub mod Starts

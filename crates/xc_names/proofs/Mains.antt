@@ -13,7 +13,7 @@ use Rattle.xc_tree.specs.Names.Rules.{IsMain}
 use Rattle.xc_tree.specs.Least.{IsLeastOf}
 use Rattle.xc_names.specs.Mains.{IsMainless, mainless, is_main}
 use Rattle.xc_tree.proofs.Leasts.{none_broken, one_broken}
-use Rattle.xc_marks.proofs.Lists.{below_or_at}
+use Rattle.xc_names.proofs.Lists.{below_or_at}
 
 some_same : {A : Type 0} (a b : A) → Some a ≡ Some b → a ≡ b
 some_same a b e = cc

@@ -14,7 +14,7 @@ use Rattle.xc_names.specs.Meanings.{spelling_of, Meaning, means, unknown, AreMea
 use Rattle.xc_names.specs.NameRules.{IsBrokenAt, unknown as unknown_name, again, IsBrokenBefore, at_use, at_declaration, broken_by}
 use Rattle.xc_names.proofs.Known.{knows_itself, ends_no_earlier, own_scope}
 use Rattle.xc_tree.proofs.Leasts.{either, of_same, none_broken, one_broken}
-use Rattle.xc_marks.proofs.Lists.{below_or_at}
+use Rattle.xc_names.proofs.Lists.{below_or_at}
 
 some_same : {A : Type 0} (a b : A) → Some a ≡ Some b → a ≡ b
 some_same a b e = cc

@@ -10,7 +10,7 @@ use Rattle.xc_names.specs.Meanings.{spelling_of, declared_by, AreMeanings}
 use Rattle.xc_names.specs.Reads.{Finds, nothing, open_still, IsFound, IsSeen, Answer, best, none_known, Answers, HasRead, FirstGlobal, first, absent, HasGlobals, ends_with, adds_one}
 use Rattle.xc_names.proofs.Known.{end_within, IsInScope, AddsNone}
 use Rattle.xc_names.proofs.Reading.{each_spelling, found_here, pass, look_up, declare}
-use Rattle.xc_marks.proofs.Lists.{below_or_at}
+use Rattle.xc_names.proofs.Lists.{below_or_at}
 
 some_same : {A : Type 0} (a b : A) → Some a ≡ Some b → a ≡ b
 some_same a b e = cc

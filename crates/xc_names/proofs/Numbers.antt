@@ -9,7 +9,7 @@ use Rattle.xc_tree.specs.Names.Uses.{declarations, number_of, IsUse, Entries, pa
 use Rattle.xc_names.specs.Meanings.{Meaning, means, unknown, AreMeanings}
 use Rattle.xc_names.specs.NameRules.{unknown as unknown_name, IsBrokenBefore}
 use Rattle.xc_names.specs.Numbers.{AreNumbers, count_in, entry_of}
-use Rattle.xc_marks.proofs.Lists.{below_or_at, push_before, push_at, length_push, take_push}
+use Rattle.xc_names.proofs.Lists.{below_or_at, push_before, push_at, length_push, take_push}
 use Rattle.xc_names.proofs.NameRules.{spelled_here}
 
 pub declarations_append : (xs ys : List Mark) → declarations (xs ++ ys) ≡ declarations xs ++ declarations ys

@@ -14,7 +14,7 @@ use Rattle.xc_names.specs.PortRules.{HasWrongPort, wrong_port, IsOnCore, IsWrong
 use Rattle.xc_names.specs.Taken.{is_among}
 use Rattle.xc_names.proofs.Identifiers.{among_contains, contains_among}
 use Rattle.xc_tree.proofs.Leasts.{either, of_same, none_broken, one_broken}
-use Rattle.xc_marks.proofs.Lists.{pushed, push_before, push_at, take_push}
+use Rattle.xc_names.proofs.Lists.{pushed, push_before, push_at, take_push}
 
 some_same : {A : Type 0} (a b : A) → Some a ≡ Some b → a ≡ b
 some_same a b e = cc

@@ -15,7 +15,7 @@ use Rattle.xc_tree.specs.Least.{IsLeastOf, first_of}
 use Rattle.xc_names.specs.Callees.{called_at, declared_function, IsCall, FoundCall, a_call, no_call}
 use Rattle.xc_names.specs.Searches.{Has, IsStep, IsCallBefore, IsBackBefore, Adds, AreBounds, IsNext, IsBackIn, AddsNext, IsReached, itself, further, IsBackTo, IsBackToOne, back_of}
 use Rattle.xc_tree.proofs.Leasts.{either, of_same, none_broken, one_broken}
-use Rattle.xc_marks.proofs.Lists.{below_or_at, pushed, push_before}
+use Rattle.xc_names.proofs.Lists.{below_or_at, pushed, push_before}
 
 some_same : {A : Type 0} (a b : A) → Some a ≡ Some b → a ≡ b
 some_same a b e = cc

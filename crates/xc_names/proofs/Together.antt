@@ -10,7 +10,7 @@ use Rattle.xc_tree.specs.Names.Calls.{first_of}
 use Rattle.xc_tree.specs.Names.Uses.{IsUse}
 use Rattle.xc_tree.specs.Names.Rules.{Breaks, unknown as unknown_name, declared_again, wrong_port as a_wrong_port, on_cycle as a_cycle, without_main}
 use Rattle.xc_tree.specs.Least.{IsLeastOf, first_of as first_rule}
-use Rattle.xc_marks.specs.Starts.{AreStarts}
+use Rattle.xc_names.specs.Starts.{AreStarts}
 use Rattle.xc_names.specs.NameRules.{IsBrokenAt, unknown, again, IsBrokenBefore}
 use Rattle.xc_names.specs.PortRules.{HasWrongPort, wrong_port}
 use Rattle.xc_names.specs.Cycles.{HasCycle, on_cycle}

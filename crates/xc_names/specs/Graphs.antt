@@ -4,7 +4,7 @@ use Rattle.xw_words.specs.declared.pos.Pos.{Pos}
 use Rattle.xw_words.specs.declared.pos.Broken.{Broken}
 use Rattle.xc_tree.specs.declared.names.Mark.{Mark}
 use Rattle.xc_tree.specs.Lexes.{IsNotAfter}
-use Rattle.xc_marks.specs.declared.graph.Edge.{Edge}
+use Rattle.xc_names.specs.declared.graph.Edge.{Edge}
 use Rattle.xc_tree.specs.Least.{comes_before}
 use Rattle.xc_names.specs.Callees.{IsCall}
 use Rattle.xc_names.specs.Searches.{IsStep}

@@ -11,3 +11,5 @@ pub mod Callees
 pub mod Searches
 pub mod Graphs
 pub mod Cycles
+pub mod Starts
+pub mod Listed

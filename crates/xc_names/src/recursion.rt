@@ -4,10 +4,11 @@ ghost use Rattle.xc_tree.specs.Least.{IsLeastOf};
 ghost use Rattle.xc_names.specs.Meanings.{AreMeanings};
 ghost use Rattle.xc_names.specs.Searches.{AreWithin, IsBackToAny};
 
+use crate::call_graph::graph_of;
 use crate::calls::broken_into;
-use crate::graph::graph_of;
+use crate::components::components_of;
+use crate::graph::{Edge, Graph};
 use std::alloc::Global;
-use xc_marks::{Edge, Graph, components_of};
 use xc_tree::{Mark, comes_before, earlier};
 use xw_words::{Broken, Memory, Pos};
 

@@ -9,9 +9,10 @@ ghost use Rattle.xc_tree.specs.Types.Named.{IsNamed, named_of};
 ghost use Rattle.xc_tree.specs.Least.{IsFirst, IsLeastOf};
 ghost use Rattle.xc_tree.specs.Refusals.{IfBroken};
 ghost use Rattle.xc_names.specs.Meanings.{AreMeanings};
-ghost use Rattle.xc_marks.specs.Starts.{AreStarts};
+ghost use Rattle.xc_names.specs.Starts.{AreStarts};
 
 use crate::main_function::broken_main;
+use crate::marks::{Marks, marks_of};
 use crate::meanings::meanings;
 use crate::names::broken_name;
 use crate::ports::broken_port;
@@ -19,7 +20,6 @@ use crate::recursion::broken_call;
 use crate::scopes::scope_ends;
 use crate::uses::{decls, uses};
 use std::alloc::Global;
-use xc_marks::{Marks, marks_of};
 use xc_tree::{Decl, Mark, Named, Refusal, Tree, earlier};
 use xw_words::{Broken, List, Memory};
 

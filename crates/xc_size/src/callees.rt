@@ -4,7 +4,7 @@ ghost use Rattle.xc_size.specs.Numbers.{number_of};
 
 use crate::names::Names;
 use std::alloc::Global;
-use xc_marks::marks_of_statement;
+use xc_names::marks_of_statement;
 use xc_tree::{Mark, Stmt};
 use xw_words::{List, Memory};
 

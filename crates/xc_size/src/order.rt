@@ -1,7 +1,7 @@
 use crate::names::Names;
 use crate::sizes::Sizes;
 use std::alloc::Global;
-use xc_marks::{Components, Edge, Graph, components_of, marks_of_statement};
+use xc_names::{Components, Edge, Graph, components_of, marks_of_statement};
 use xc_tree::{Mark, Stmt};
 use xw_words::{List, Memory};
 

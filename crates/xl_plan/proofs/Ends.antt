@@ -7,8 +7,8 @@ use Rattle.xc_kernel.specs.Things.{channel, by_branches}
 use Rattle.xc_kernel.specs.Uses.{once}
 use Rattle.xc_kernel.specs.Branches.{branches_of, uses_in, users, some_has_sides}
 use Rattle.xc_kernel.specs.Pars as pars
-use Rattle.xc_sides.proofs.Settled as settled
-use Rattle.xc_sides.proofs.Users.{Has, has_split, has_none}
+use Rattle.xc_disjoint.proofs.WholeUses as settled
+use Rattle.xc_disjoint.proofs.Users.{Has, has_split, has_none}
 use Rattle.xc_disjoint.specs.Checked.{IsChecked}
 use Rattle.xc_disjoint.specs.Cores.{if_so, last_core, on_core}
 use Rattle.xc_disjoint.specs.Disjoint.{NotApart}

@@ -3,7 +3,7 @@ use Rattle.std.proofs.Common.{◌≡◌, ◌≢◌, ◌⊎◌, ⊎_elim, ℕ, ze
 use Rattle.xc_kernel.specs.Plain as kernel
 use Rattle.xc_kernel.specs.Things.{variable, change, by_statements}
 use Rattle.xc_kernel.specs.Branches.{branches_of, branch_at}
-use Rattle.xc_apart.specs.Clashes.{changed, used}
+use Rattle.xc_disjoint.specs.Clashes.{changed, used}
 use Rattle.xc_disjoint.specs.Disjoint.{clash}
 use Rattle.xc_disjoint.specs.Rules.{apart}
 use Rattle.xc_disjoint.specs.Checked.{IsChecked}

@@ -6,13 +6,13 @@ use Rattle.xc_kernel.specs.Plain as kernel
 use Rattle.xc_kernel.specs.Things.{channel, by_branches}
 use Rattle.xc_kernel.specs.Branches.{branches_of, all_pars, uses_in, users, some_has_sides, has_two_sides}
 use Rattle.xc_kernel.proofs.Used.{branches_use}
-use Rattle.xc_sides.specs.declared.uses.Held.{Held}
-use Rattle.xc_sides.specs.declared.uses.Held.TheVariants.{Apart, Two, Many}
-use Rattle.xc_sides.specs.declared.uses.Use.{Use}
-use Rattle.xc_sides.specs.Rules.{IsInnermost, third, one_sided}
-use Rattle.xc_sides.proofs.Holding.{Holder, HeldBy, UsedBy}
-use Rattle.xc_sides.proofs.Settled.{of_whole}
-use Rattle.xc_sides.proofs.Users.{Has}
+use Rattle.xc_disjoint.specs.declared.uses.Held.{Held}
+use Rattle.xc_disjoint.specs.declared.uses.Held.TheVariants.{Apart, Two, Many}
+use Rattle.xc_disjoint.specs.declared.uses.Use.{Use}
+use Rattle.xc_disjoint.specs.SideRules.{IsInnermost, third, one_sided}
+use Rattle.xc_disjoint.proofs.Holding.{Holder, HeldBy, UsedBy}
+use Rattle.xc_disjoint.proofs.WholeUses.{of_whole}
+use Rattle.xc_disjoint.proofs.Users.{Has}
 use Rattle.xc_disjoint.specs.Disjoint.{NotApart, without_sides}
 use Rattle.xl_plan.proofs.Lists.{some_given, none_given}
 use Rattle.xl_plan.proofs.Unused.{in_par, none_has_sides}

@@ -1,7 +1,7 @@
 -- What the words of the command line mean.
 use Rattle.std.specs.Prelude.{ℕ, ◌&&◌, Bool, false, not, List, [], ◌∷◌, length, codes, bytes_eq, nat_eq, nat_lt, Option, Some, None, option_and_then, if◌then◌else◌}
 use Rattle.std.specs.Option.{option_map}
-use Rattle.xr_lines.specs.Numbers.{number}
+use Rattle.xr_stim.specs.Numbers.{number}
 
 -- what the program is asked to do
 pub data Command : Type 0 where

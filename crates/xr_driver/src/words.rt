@@ -4,7 +4,7 @@ ghost use Rattle.std.specs.Prelude.{◌≡◌, [], ◌∷◌, None, Some, map, M
 ghost use Rattle.xr_driver.specs.Command.{file_of, is_operand, is_ticks, means, run_of, ticks_of};
 ghost use Rattle.xr_driver.specs.Decision.{command_of};
 
-use xr_lines::number;
+use xr_stim::number;
 
 /// How many ticks a run has where the words don't say it.
 const DEFAULT_TICKS: u32 = 100_000;

@@ -2,7 +2,7 @@
 use Rattle.std.proofs.Common.{◌≡◌, ℕ, ◌+◌, ◌^◌, ◌<◌, ◌≤◌, Bool, true, false, ◌||◌, cond, List, [], ◌∷◌, ◌++◌, length, Option, Some, None, nat_lt, refl, subst, arith, is_none, unwrap_or, bytes_eq}
 use Rattle.std.proofs.lemmas.Bool.{ltb-false}
 use Rattle.std.proofs.lemmas.Bool.Decides.{nat_tests}
-use Rattle.xr_lines.specs.Lines.{is_skipped, words}
+use Rattle.xr_stim.specs.Lines.{is_skipped, words}
 use Rattle.xr_stim.specs.Forms.{form, form_of_parts, parts, parts_of, parts_of_words, port_names, small_number}
 use Rattle.xr_stim.specs.Stimulus.{broken_rule, is_too_wide, last_tick, line_of}
 use Rattle.xr_stim.specs.declared.form.Form.{Form}

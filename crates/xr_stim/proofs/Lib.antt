@@ -1,2 +1,4 @@
 pub mod Goods
 pub mod Reading
+pub mod PartLemmas
+pub mod DigitLemmas

@@ -1,7 +1,7 @@
 -- The forms of lines of a stimulus: a line is skipped, or it is `TICK CORE PORT VALUE`, or it has another form.
 use Rattle.std.specs.Prelude.{ℕ, zero, suc, ◌+◌, ◌^◌, if◌then◌else◌, List, [], ◌∷◌, Option, None, Some, nat_lt, option_and_then}
-use Rattle.xr_lines.specs.Lines.{is_skipped, words}
-use Rattle.xr_lines.specs.Numbers.{number}
+use Rattle.xr_stim.specs.Lines.{is_skipped, words}
+use Rattle.xr_stim.specs.Numbers.{number}
 use Rattle.xr_stim.specs.declared.form.Form.{Form}
 use Rattle.xr_stim.specs.declared.form.Form.TheVariants.{Skipped, Stimulus, Other}
 use Rattle.xr_stim.specs.declared.form.Parts.{Parts}

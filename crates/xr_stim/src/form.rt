@@ -5,7 +5,9 @@ ghost use Rattle.xr_stim.specs.Forms as spec;
 ghost use Rattle.xr_stim.specs.Forms.{port_names};
 ghost use Rattle.xw_words.specs.Tables.{place_in as place};
 
-use xr_lines::{first_word, is_skipped, number};
+use crate::lines::is_skipped;
+use crate::numbers::number;
+use crate::words::first_word;
 use xw_words::place_in;
 
 /// The four parts of a stimulus line. The port is its place among the ports, if its name is one of theirs.

@@ -6,10 +6,10 @@ ghost use Rattle.xr_stim.specs.Errors.{IfLine};
 ghost use Rattle.xr_stim.specs.Stimulus.{IsFirstBroken, Means};
 
 use crate::form::form_of;
+use crate::lines::first_line;
 use crate::rules::check;
 use std::alloc::Global;
 use thiserror::Error;
-use xr_lines::first_line;
 use xs_instr::Stim;
 use xw_words::{List, Memory};
 

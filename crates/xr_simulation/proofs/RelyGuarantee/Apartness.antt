@@ -13,7 +13,7 @@ use Rattle.xc_meaning.specs.States.Branches.{side_of}
 use Rattle.xc_meaning.specs.States.Channels.{Side, first, second}
 use Rattle.xc_meaning.specs.States.Worlds.{World}
 use Rattle.xc_meaning.proofs.Basics.{or_cases}
-use Rattle.xc_apart.specs.Clashes.{changed, of_port, of_timer}
+use Rattle.xc_disjoint.specs.Clashes.{changed, of_port, of_timer}
 use Rattle.xc_disjoint.specs.Needs.{threads_on}
 use Rattle.xc_invariants.specs.Lawful.{Lawful}
 use Rattle.xc_invariants.specs.Rules.{AreApart}

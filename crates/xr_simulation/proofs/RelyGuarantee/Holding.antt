@@ -5,7 +5,7 @@ use Rattle.std.proofs.lemmas.Option.{slice_get_within}
 use Rattle.xs_instr.specs.declared.state.CoreState.{CoreState}
 use Rattle.xs_instr.specs.OwnSteps.{temporary}
 use Rattle.xs_instr.specs.declared.state.Res.TheVariants.{Port as ResPort}
-use Rattle.xc_apart.specs.Clashes.{of_port, used}
+use Rattle.xc_disjoint.specs.Clashes.{of_port, used}
 use Rattle.xc_kernel.specs.declared.kernel.PortUse.{PortUse}
 use Rattle.xc_kernel.specs.Eval.{Store, words_of}
 use Rattle.xc_kernel.specs.Things.{change, port, variable}

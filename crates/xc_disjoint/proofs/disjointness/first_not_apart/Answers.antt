@@ -3,7 +3,7 @@ use Rattle.xc_tree.specs.Least.{IsLeastOf}
 use Rattle.xc_kernel.specs.declared.kernel.Root.{Root}
 use Rattle.xc_kernel.specs.Branches.{all_pars, pars_of}
 use Rattle.xc_kernel.specs.Kernels.{kernel_of, root_of}
-use Rattle.xc_apart.specs.Clashes.{Clashes}
+use Rattle.xc_disjoint.specs.Clashes.{Clashes}
 use Rattle.xc_disjoint.proofs.Whole.{least_apart}
 use Rattle.xc_disjoint.proofs.disjointness.first_not_apart.Goals as goal
 

@@ -1,5 +1,5 @@
 use Rattle.std.proofs.Common.{List, length, sym, subst}
-use Rattle.xc_marks.specs.declared.graph.Edge.{Edge}
+use Rattle.xc_names.specs.declared.graph.Edge.{Edge}
 use Rattle.xc_names.specs.Graphs.{HasCalls}
 use Rattle.xc_names.proofs.recursion.broken_in_graph.Goals as goal
 

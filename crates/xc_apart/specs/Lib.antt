@@ -1,3 +1,0 @@
-pub mod Clashes
-pub mod Footprints
-pub mod Behind

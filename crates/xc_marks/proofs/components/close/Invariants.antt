@@ -1,5 +1,0 @@
-use Rattle.std.proofs.Common.{length}
-use Rattle.xc_marks.proofs.components.close.Given as goal
-
-abbrev pub decreases-close : goal.decreases-close
-decreases-close l = length l.walk.open.items

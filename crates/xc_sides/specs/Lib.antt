@@ -1,4 +1,0 @@
-pub mod Rules
-pub mod Uses
-pub mod Tables
-pub mod Judged
