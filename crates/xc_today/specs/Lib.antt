@@ -1,2 +1,1 @@
 pub mod Today
-pub mod Laws

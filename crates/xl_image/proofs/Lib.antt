@@ -9,3 +9,8 @@ pub mod GoodPairs
 pub mod GoodParts
 pub mod Imaged
 pub mod Gathering
+mod TodayRules
+pub mod TodayEarly
+pub mod TodayCopied
+pub mod TodayPorts
+pub mod TodayBuilt

@@ -2,3 +2,4 @@ pub mod Code
 pub mod Images
 pub mod Roots
 pub mod Parts
+pub mod TodayLaws

@@ -4,7 +4,9 @@
 
 mod channels;
 mod cores;
+mod law;
 mod needs;
 mod roots;
 
 pub use cores::image;
+pub use law::{kernels_are_built, ports_go_out};

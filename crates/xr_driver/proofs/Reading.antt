@@ -24,7 +24,7 @@ use Rattle.xc_kernel.specs.Copies.{Copies}
 use Rattle.xc_kernel.specs.Plain.{Kernel}
 use Rattle.xc_kernel.specs.Size.{Breaks509, IsTooLarge}
 use Rattle.xc_kernel.specs.Sound.{IsOfText, IsTyped}
-use Rattle.xc_today.proofs.Built.{kernels_are_built}
+use Rattle.xl_image.proofs.TodayBuilt.{kernels_are_built}
 use Rattle.xc_today.specs.Today.{IsBuiltToday}
 use Rattle.xl_image.specs.Roots.{KernelIsBuilt}
 use Rattle.xr_driver.specs.Reads.{IsReadAs}

@@ -7,7 +7,7 @@ use Rattle.xc_tree.specs.Words as words
 use Rattle.xc_tree.specs.Symbol.{Symbol, sym, key, a_name, a_number, many, maybe, commas, program, item, body, block, block_item, decl, statement, closed, case_item, for_start, for_step, place as placed, branch, assign, Declarator, a_word, an_array, Value, Values}
 use Rattle.xc_tree.specs.Grammar.{Rule, Extent, rules, kept, declared, named as kind_named}
 use Rattle.xc_tree.specs.Derives.{Room, extent, Derives, a_sym, a_key, named, counted, by_rule, Row, done, next}
-use Rattle.xc_today.proofs.Rules.{EachRule, none, ◌&◌, among_each}
+use Rattle.xl_image.proofs.TodayRules.{EachRule, none, ◌&◌, among_each}
 use Rattle.xc_wellformed.proofs.Grammar.{AllOf, MaybeOf}
 use Rattle.xc_today.specs.Today.{later_words, IsNoneOf, IsOfToday, AreOfToday}
 

@@ -13,9 +13,9 @@ use Rattle.xc_tree.specs.Grammar.{Rule, Extent, rules, kept, one_of, operators}
 use Rattle.xc_tree.specs.Derives.{Room, extent, Derives, IsProgram, a_sym, a_key, named, counted, by_rule, Row, done, next}
 use Rattle.xc_wellformed.proofs.Grammar.{AllOf, MaybeOf}
 use Rattle.xc_today.specs.Today.{later_words, AreOfToday, is_word, PortsAreOut, IsBuiltToday}
-use Rattle.xc_today.specs.Laws.{IsOutKind, AreOutParams, IsOutItem, AreOutItems, PortsGoOut}
-use Rattle.xc_today.proofs.Early.{no_one, of_today}
-use Rattle.xc_today.proofs.Rules.{EachRule, none, ◌&◌, among_each}
+use Rattle.xl_image.specs.TodayLaws.{IsOutKind, AreOutParams, IsOutItem, AreOutItems, PortsGoOut}
+use Rattle.xl_image.proofs.TodayEarly.{no_one, of_today}
+use Rattle.xl_image.proofs.TodayRules.{EachRule, none, ◌&◌, among_each}
 
 -- Tokens.
 

@@ -28,10 +28,10 @@ use Rattle.xc_wellformed.proofs.Grammar.{AllOf, MaybeOf}
 use Rattle.xl_statements.specs.Built.{IsSent, IsReceived, IsBuilt, AreBuilt, BranchesAreBuilt}
 use Rattle.xl_image.specs.Roots.{RootsAreBuilt, StayOnCores}
 use Rattle.xc_today.specs.Today.{AreItemsUnstamped}
-use Rattle.xc_today.specs.Laws.{AreOutItems, KernelsAreBuilt}
-use Rattle.xc_today.proofs.Early.{IsEarlyAction, IsEarly, AreEarly, IsEarlyBranch, AreEarlyBranches, IsEarlyItem, program_early}
-use Rattle.xc_today.proofs.Ports.{items_go_out}
-use Rattle.xc_today.proofs.Copied.{IsEarlyCode, AreEarlyCode, HaveEarlyCode, IsEarlyFunction, CallsEarly, as_statements, named_early, function_early, calls_early}
+use Rattle.xl_image.specs.TodayLaws.{AreOutItems, KernelsAreBuilt}
+use Rattle.xl_image.proofs.TodayEarly.{IsEarlyAction, IsEarly, AreEarly, IsEarlyBranch, AreEarlyBranches, IsEarlyItem, program_early}
+use Rattle.xl_image.proofs.TodayPorts.{items_go_out}
+use Rattle.xl_image.proofs.TodayCopied.{IsEarlyCode, AreEarlyCode, HaveEarlyCode, IsEarlyFunction, CallsEarly, as_statements, named_early, function_early, calls_early}
 
 -- Roots.
 

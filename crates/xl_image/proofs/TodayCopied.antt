@@ -21,7 +21,7 @@ use Rattle.xc_kernel.specs.Flow.{Branched, and_branch, par_copy, numbered_copy, 
 use Rattle.xc_kernel.specs.Statements.{pos_of_branch, assign_by, return_copy, statement_copy, action_copy, maybe_copy, statements_copy, branch_copy, branches_copy, calls_copy}
 use Rattle.xc_wellformed.proofs.Grammar.{AllOf, MaybeOf}
 use Rattle.xc_today.specs.Today.{IsUnstamped, IsActionUnstamped, IsMaybeUnstamped, AreUnstamped, IsBranchUnstamped, AreBranchesUnstamped}
-use Rattle.xc_today.proofs.Early.{IsEarlyKind, AreEarlyDeclarations, IsEarly, IsEarlyAction, IsMaybeEarly, AreEarly, IsEarlyBranch, AreEarlyBranches}
+use Rattle.xl_image.proofs.TodayEarly.{IsEarlyKind, AreEarlyDeclarations, IsEarly, IsEarlyAction, IsMaybeEarly, AreEarly, IsEarlyBranch, AreEarlyBranches}
 
 -- no `select` and no transaction, and no output has a stamp
 abbrev mutual
