@@ -8,7 +8,7 @@ use Rattle.xr_match.proofs.Texts.{kernels_carry}
 use Rattle.xs_instr.specs.declared.image.Image.{Image}
 use Rattle.xs_instr.specs.Valid.{Valid}
 use Rattle.xs_instr.specs.Words.{HasWords}
-use Rattle.xr_driver.specs.Rules.{IsKernelOf}
+use Rattle.xr_front.specs.Rules.{IsKernelOf}
 use Rattle.xr_driver.specs.Runs.{IsCompiled}
 
 pub compiled : (text : List ℕ) (K : Kernel) (L : Image) → IsKernelOf text K → Valid L → HasWords L → Implements L (of_kernel K) → ImplementsTextsOf L K → IsCompiled text L

@@ -11,7 +11,7 @@ use Rattle.xs_instr.specs.declared.image.Stim.{Stim}
 use Rattle.xr_driver.specs.Command.{Command, Run, Asm, Check, file_of, means, stim_of}
 use Rattle.xr_driver.specs.Due.{IsDue}
 use Rattle.xr_driver.specs.Outside.{Loads, Span, Gained}
-use Rattle.xr_driver.specs.Rules.{First, IsAccepted}
+use Rattle.xr_front.specs.Rules.{First, IsAccepted}
 use Rattle.xr_driver.specs.Runs.{IsStimOf}
 use Rattle.xr_driver.proofs.Dues.{due_is, one_stim}
 

@@ -13,7 +13,7 @@ use Rattle.xr_driver.specs.Due.{IsDue, of_text}
 use Rattle.xr_driver.specs.Lines.{accepted_line, broken_line, code_section, no_file_line, no_memory_line, read_fault_line, run_output, too_long_line}
 use Rattle.xr_driver.specs.Outside.{Loads}
 use Rattle.xr_driver.specs.Parts.{IsAnswer, IsAnswerOnText}
-use Rattle.xr_driver.specs.Rules.{First, IsAccepted}
+use Rattle.xr_front.specs.Rules.{First, IsAccepted}
 use Rattle.xr_driver.specs.Runs.{IsCompiled, IsRunFor, no_stim, unnamed}
 use Rattle.xr_driver.proofs.ProgramRuns.{run_beside}
 

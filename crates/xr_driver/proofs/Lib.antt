@@ -2,13 +2,8 @@ mod Carried
 mod Completes
 mod Decides
 mod Dues
-mod Firsts
 mod Given
-mod Meanings
 mod NoMeaning
-mod OneAnswer
 mod OnlyCauses
-mod Order
 mod ProgramRuns
-mod Reading
 mod Rounds

@@ -10,7 +10,7 @@ use Rattle.xs_instr.specs.declared.trace.EndWord.TheVariants.{Finished, Trapped,
 use Rattle.xr_driver.specs.Answers.{Answers, Decided, no_command, missing, too_long, read_fault, refused, checked, assembled, ran, no_memory, Delivered, whole, out_fell, err_fell, Outcome, status_of_run}
 use Rattle.xr_driver.specs.Causes.{OnlyCauses, OutputCauses, WasRun}
 use Rattle.xr_driver.specs.Command.{Command, Run, Asm, Check, file_of, means}
-use Rattle.xr_driver.specs.Rules.{IsAccepted}
+use Rattle.xr_front.specs.Rules.{IsAccepted}
 use Rattle.xr_driver.specs.Runs.{IsCompiled, IsRunFor, IsStimOf}
 use Rattle.xr_driver.specs.Outside.{Loads, Span, Gained}
 use Rattle.xw_io.specs.Outside.{Rose}

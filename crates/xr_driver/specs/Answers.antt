@@ -12,7 +12,7 @@ use Rattle.xr_driver.specs.Command.{Run, Asm, Check, Command, file_of, means}
 use Rattle.xr_driver.specs.Due.{IsDue}
 use Rattle.xr_driver.specs.Lines.{accepted_line, code_section, run_output, usage_line, no_file_line, too_long_line, read_fault_line, broken_line, no_memory_line}
 use Rattle.xr_driver.specs.Outside.{Loads, Span, Gained, GainedFront}
-use Rattle.xr_driver.specs.Rules.{First, IsAccepted}
+use Rattle.xr_front.specs.Rules.{First, IsAccepted}
 use Rattle.xr_driver.specs.Runs.{IsCompiled, IsRunFor, IsRunOf, IsStimOf}
 
 -- what is decided: the status, what is due on `out`, and the line that is due on `err`

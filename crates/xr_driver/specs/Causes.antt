@@ -14,7 +14,7 @@ use Rattle.xr_driver.specs.Command.{Run, Asm, Check, Command, file_of, means, st
 use Rattle.xr_driver.specs.Due.{IsDue}
 use Rattle.xr_driver.specs.Lines.{accepted_line, code_section, run_output}
 use Rattle.xr_driver.specs.Outside.{Loads, Span, Gained}
-use Rattle.xr_driver.specs.Rules.{First, IsAccepted, IsRefusedOrAccepted}
+use Rattle.xr_front.specs.Rules.{First, IsAccepted, IsRefusedOrAccepted}
 use Rattle.xr_driver.specs.Runs.{IsCompiled, IsRunFor, IsRunOf, IsStimOf}
 
 -- the words mean a command, of whose text's file this is so

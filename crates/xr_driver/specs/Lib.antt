@@ -1,6 +1,5 @@
 pub mod Command
 pub mod Lines
-pub mod Rules
 pub mod Due
 pub mod Runs
 pub mod Outside
@@ -8,4 +7,3 @@ pub mod Answers
 pub mod Causes
 pub mod Decision
 pub mod Parts
-pub mod Reads

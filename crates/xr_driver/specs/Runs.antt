@@ -19,7 +19,7 @@ use Rattle.xr_match.specs.Implements.{AllRootsEnded, Implements, ImplementsWholl
 use Rattle.xr_match.specs.Matching.{AgreeQuietly, MatchingRun}
 use Rattle.xr_match.specs.Meanings.{of_text}
 use Rattle.xs_instr.specs.Words.{HasWords}
-use Rattle.xr_driver.specs.Rules.{IsAccepted}
+use Rattle.xr_front.specs.Rules.{IsAccepted}
 
 -- a valid image that implements the program that the text means. Its numbers are words, so no other such image has its
 -- listing

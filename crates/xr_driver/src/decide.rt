@@ -10,15 +10,15 @@ ghost use Rattle.xr_driver.specs.Command.{Asm as MeansAsm, Run as MeansRun};
 ghost use Rattle.xr_driver.specs.Decision.{command_of, outcome_of, IsPrintable};
 ghost use Rattle.xr_driver.specs.Outside.{loads};
 ghost use Rattle.xr_driver.specs.Parts.{IsAnswer, IsAnswerOnText};
-ghost use Rattle.xr_driver.specs.Rules.{First, IsKernelOf};
+ghost use Rattle.xr_front.specs.Rules.{First, IsKernelOf};
 ghost use Rattle.xr_driver.specs.Runs.{IsCompiled};
 
-use crate::front::read_text;
 use crate::run::{Run, run_for};
 use crate::words::{Command, meaning};
 use std::alloc::Global;
 use xc_disjoint::Checked;
 use xc_tree::Refusal;
+use xr_front::read_text;
 use xr_simulation::compile;
 use xs_instr::{EndWord, Image};
 use xw_io::{LoadErr, Shelf};

@@ -4,13 +4,10 @@
 
 mod decide;
 mod deliver;
-mod front;
-mod law;
 mod run;
 mod top;
 mod unthreaded;
 mod words;
 
-pub use law::at_most_one_answer;
 pub use top::xcsim;
 pub use unthreaded::still;

@@ -1,6 +1,6 @@
 ghost use Rattle.std.specs.Prelude.{◌≡◌, ℕ, List};
 ghost use Rattle.xc_tree.specs.Plain.{Item};
-ghost use Rattle.xr_driver.specs.Rules.{First, IsAccepted};
+ghost use Rattle.xr_front.specs.Rules.{First, IsAccepted};
 ghost use Rattle.xw_words.specs.declared.pos.Broken.{Broken};
 
 use xc_parser::at_most_one_tree;

@@ -5,10 +5,10 @@ use Rattle.xc_tree.specs.Refusals.{IfBroken}
 use Rattle.xc_tree.specs.Trees.{program_of}
 use Rattle.xc_lexer.proofs.Outcomes.{broken_map}
 use Rattle.xc_parser.proofs.Reading.Exits.{handed_on}
-use Rattle.xr_driver.specs.Rules.{First, IsKernelOf}
+use Rattle.xr_front.specs.Rules.{First, IsKernelOf}
 use Rattle.xl_image.specs.Roots.{KernelIsBuilt}
-use Rattle.xr_driver.proofs.Reading.{err_by, ok_by, of_names, of_types, typed_too, shallow_too, size_too, needs_too, kernel_too, built_too}
-use Rattle.xr_driver.proofs.front.check_tree.Goals as goal
+use Rattle.xr_front.proofs.Reading.{err_by, ok_by, of_names, of_types, typed_too, shallow_too, size_too, needs_too, kernel_too, built_too}
+use Rattle.xr_front.proofs.front.check_tree.Goals as goal
 
 pub resolve-requires : goal.resolve-requires
 resolve-requires c =

@@ -16,9 +16,9 @@ use Rattle.xc_kernel.specs.Plain.{Kernel}
 use Rattle.xc_kernel.specs.Size.{Breaks509, IsTooLarge}
 use Rattle.xc_today.specs.Today.{IsBuiltToday}
 use Rattle.xc_lexer.proofs.Rows.{tokens_one, tokens_unbroken}
-use Rattle.xr_driver.specs.Rules.{Breaks, of_bytes, of_form, of_names, of_needs, of_size, of_tokens, of_types, First, IsAccepted, IsCopied, IsEarlier, IsResolved, IsShaped, IsTree, Phase, Form, Bytes, Tokens, Names, Types, Size, Needs, end_of, not_built}
-use Rattle.xr_driver.proofs.Meanings.{named_one}
-use Rattle.xr_driver.proofs.Order.{tokens_in_order}
+use Rattle.xr_front.specs.Rules.{Breaks, of_bytes, of_form, of_names, of_needs, of_size, of_tokens, of_types, First, IsAccepted, IsCopied, IsEarlier, IsResolved, IsShaped, IsTree, Phase, Form, Bytes, Tokens, Names, Types, Size, Needs, end_of, not_built}
+use Rattle.xr_front.proofs.Meanings.{named_one}
+use Rattle.xr_front.proofs.Order.{tokens_in_order}
 
 pub first_in_bytes : (text : List ℕ) (b : Broken) → IsFirst (BreaksInBytes text) b → First text b
 first_in_bytes text b f = record { phase = Bytes; breaks = of_bytes b f.breaks; least = least }

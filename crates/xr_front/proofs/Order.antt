@@ -6,7 +6,7 @@ use Rattle.xc_tree.specs.Parses.{place_at}
 use Rattle.xc_tree.specs.Places.{pos_at}
 use Rattle.xc_lexer.proofs.Order.{Rising, poses, rising}
 use Rattle.xc_lexer.proofs.Spans.{pos_before}
-use Rattle.xr_driver.specs.Rules.{end_of}
+use Rattle.xr_front.specs.Rules.{end_of}
 
 few : (text : List ℕ) (a : ℕ) (toks : List Tok) → Rising text a (poses toks) → a + length toks ≤ length text
 few text a [] h = omega (arith, h)

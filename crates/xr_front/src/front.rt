@@ -11,8 +11,8 @@ ghost use Rattle.xc_tree.specs.Refusals.{IfBroken};
 ghost use Rattle.xc_tree.specs.Trees.{program_of};
 ghost use Rattle.xc_tree.specs.Types.Named.{named_of};
 ghost use Rattle.xl_image.specs.Roots.{KernelIsBuilt};
-ghost use Rattle.xr_driver.specs.Reads.{IsReadAs};
-ghost use Rattle.xr_driver.specs.Rules.{First, IsKernelOf};
+ghost use Rattle.xr_front.specs.Reads.{IsReadAs};
+ghost use Rattle.xr_front.specs.Rules.{First, IsKernelOf};
 
 use std::alloc::Global;
 use xc_disjoint::{Checked, disjoint};

@@ -7,7 +7,7 @@ use Rattle.xc_tree.specs.declared.token.Tok.{Tok}
 use Rattle.xc_tree.specs.Plain.{Item}
 use Rattle.xc_tree.specs.Derives.{IsProgram}
 use Rattle.xc_tree.specs.Lexes.{IsBefore, IsNotAfter}
-use Rattle.xr_driver.specs.Rules.{First, IsAccepted, IsEarlier, rank}
+use Rattle.xr_front.specs.Rules.{First, IsAccepted, IsEarlier, rank}
 
 not_both : (p q : Pos) → IsBefore p q → IsBefore q p → ⊥
 not_both p q (inl h) (inl k) = absurd (omega (arith, h, k))

@@ -27,10 +27,10 @@ use Rattle.xc_kernel.specs.Sound.{IsOfText, IsTyped}
 use Rattle.xl_image.proofs.TodayBuilt.{kernels_are_built}
 use Rattle.xc_today.specs.Today.{IsBuiltToday}
 use Rattle.xl_image.specs.Roots.{KernelIsBuilt}
-use Rattle.xr_driver.specs.Reads.{IsReadAs}
-use Rattle.xr_driver.specs.Rules.{First, IsKernelOf, IsResolved}
-use Rattle.xr_driver.proofs.Order.{tokens_few}
-use Rattle.xr_driver.proofs.Firsts.{accepts, first_in_names, first_in_needs, first_in_size, first_in_types}
+use Rattle.xr_front.specs.Reads.{IsReadAs}
+use Rattle.xr_front.specs.Rules.{First, IsKernelOf, IsResolved}
+use Rattle.xr_front.proofs.Order.{tokens_few}
+use Rattle.xr_front.proofs.Firsts.{accepts, first_in_names, first_in_needs, first_in_size, first_in_types}
 
 pub read_as : (text : List ℕ) (toks : List Tok) (items : List Item) → Lexes text toks → Rise toks → IsProgram toks items →
     ((v : List Item) → IsProgram toks v → v ≡ items) → ((rule i : ℕ) → BreaksRule toks rule i → ⊥) →

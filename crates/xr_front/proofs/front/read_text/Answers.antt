@@ -5,12 +5,12 @@ use Rattle.xc_tree.specs.Refusals.{IfBroken}
 use Rattle.xc_tree.specs.Trees.{program_of}
 use Rattle.xc_lexer.proofs.Outcomes.{broken_map}
 use Rattle.xc_parser.proofs.Reading.Exits.{handed_on}
-use Rattle.xr_driver.specs.Rules.{First}
-use Rattle.xr_driver.proofs.Firsts.{first_in_bytes, first_in_tokens, first_of_form}
-use Rattle.xr_driver.proofs.Order.{tokens_few}
-use Rattle.xr_driver.proofs.Reading.{read_as}
+use Rattle.xr_front.specs.Rules.{First}
+use Rattle.xr_front.proofs.Firsts.{first_in_bytes, first_in_tokens, first_of_form}
+use Rattle.xr_front.proofs.Order.{tokens_few}
+use Rattle.xr_front.proofs.Reading.{read_as}
 use Rattle.xc_today.specs.Today.{IsBuiltToday}
-use Rattle.xr_driver.proofs.front.read_text.Goals as goal
+use Rattle.xr_front.proofs.front.read_text.Goals as goal
 
 pub parse-requires : goal.parse-requires
 parse-requires c =

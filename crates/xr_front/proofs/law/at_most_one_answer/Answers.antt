@@ -1,5 +1,5 @@
-use Rattle.xr_driver.proofs.OneAnswer.{first_or_accepted, one_accepted, one_first}
-use Rattle.xr_driver.proofs.law.at_most_one_answer.Goals as goal
+use Rattle.xr_front.proofs.OneAnswer.{first_or_accepted, one_accepted, one_first}
+use Rattle.xr_front.proofs.law.at_most_one_answer.Goals as goal
 
 pub returns : goal.returns
 returns c = record {

@@ -3,7 +3,7 @@ use Rattle.std.proofs.Common.{◌≡◌, List}
 use Rattle.xc_tree.specs.Plain.{Item}
 use Rattle.xc_tree.specs.Types.Named.{NamedProgram}
 use Rattle.xc_names.proofs.OneNaming.{one_naming}
-use Rattle.xr_driver.specs.Rules.{IsResolved}
+use Rattle.xr_front.specs.Rules.{IsResolved}
 
 -- a tree has one named program
 pub named_one : (items : List Item) (a b : NamedProgram) → IsResolved items a → IsResolved items b → a ≡ b

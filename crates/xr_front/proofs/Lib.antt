@@ -1,0 +1,5 @@
+mod Firsts
+mod Meanings
+mod OneAnswer
+mod Order
+mod Reading
