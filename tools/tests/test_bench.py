@@ -94,10 +94,10 @@ class Scratch(unittest.TestCase):
         """The crates below and the program, without must-fail and without the ending of its files."""
         with tempfile.TemporaryDirectory() as room:
             made = scratch.make(room, "time_stimulus")
-            lines = ["xr_stim: ", "xw_words: ", "xs_instr: xw_words", "xr_stim: xr_stim xs_instr xw_words thiserror"]
+            lines = ["xw_words: ", "xs_instr: xw_words", "xr_stim: xs_instr xw_words thiserror"]
             lines.append("time_stimulus: xr_stim xs_instr xw_words anyhow")
             self.assertEqual(written(os.path.join(room, "crates.txt")).splitlines(), lines)
-            self.assertEqual(sorted(os.listdir(os.path.join(room, "crates"))), ["time_stimulus", "xr_stim", "xr_stim", "xs_instr", "xw_words"])
+            self.assertEqual(sorted(os.listdir(os.path.join(room, "crates"))), ["time_stimulus", "xr_stim", "xs_instr", "xw_words"])
             self.assertFalse(os.path.exists(os.path.join(room, "crates", "xr_stim", "must-fail")))
             self.assertEqual(os.listdir(os.path.join(made.folder, "src")), ["main.rt"])
             made.replace("time_stimulus/src/main.rt", "use std::alloc::Global;", "use std::alloc::Other;")
