@@ -1,9 +1,9 @@
-//! Whether the branches of a program keep apart, and what it needs of the device: threads, channel ends, timers, words, cores
-//! that are there, and ports on their own cores. A kernel whose branches do, and that needs no more than there is, comes back
-//! as one that is checked.
+//! Decides the rules 601 to 606, whether the branches of a kernel keep apart, and 701 to 706, whether there are the threads, channel
+//! ends, timers, words and cores that it needs, and each port on its core. A kernel that breaks none comes back as a `Checked`.
 //!
-//! Branches keep apart where none uses what another one uses that they may not share, a variable that one of them changes, a port or a timer
-//! (clashes), and where the two sides of each channel are two branches, those of the innermost `par` that holds all its uses (judge).
+//! Branches keep apart where none uses what another one uses that they may not share, a variable that one of them changes, a port or a
+//! timer (clashes), and where the two sides of each channel are two branches, those of the innermost `par` that holds all its uses
+//! (judge).
 #![tactic(auto)]
 
 mod channel_uses;

@@ -1,4 +1,8 @@
-//! How large a program is with all the copies that its calls and replicated branches make, seen without making them.
+//! Decides rule 509: it counts the size of a program with all the copies that its calls and replicated branches make, without making
+//! them.
+//!
+//! The size of a function is found once, and each call adds it. No number goes further than one above its limit. Proved is, for every
+//! tree, that the rule is answered exactly where it is broken.
 #![tactic(auto)]
 
 mod callees;

@@ -1,6 +1,5 @@
-//! What a program is made of: the tokens of its text and their tree, and why one is refused. In specs/ stand what it means
-//! that a text has these tokens and they this tree, the rules of lexing, of the grammar, of names, of types and of shapes, and
-//! which of the broken rules of a phase is the first.
+//! The tokens of a program's text, their syntax tree, and the refusal that names a broken rule. specs/ defines the language: its
+//! tokens, its grammar, its rules on names, types and shapes, and which of several broken rules is the first.
 #![tactic(auto)]
 
 mod least;

@@ -1,7 +1,9 @@
-//! Each program's kernel is well formed: its numbers lie in its lists, its operations have their
-//! operands, its transfers go through what they can go through, its exits stand inside their
-//! blocks, and its roots use timers of their cores and, where they keep apart, variables of their
-//! cores. And each name of a copy stands for an instance of what the name is declared as.
+//! Laws of the kernel alone: the kernel of every typed program is well formed, and its expressions, parameters, transfers and exits are
+//! those of the text.
+//!
+//! Well formed is a kernel whose numbers lie in its lists, whose operations have their operands, whose transfers go through what they
+//! can go through, whose exits stand inside their blocks, and whose roots use timers of their cores and, where they keep apart,
+//! variables of their cores. The crate has no code: each law is the contract of a function that does nothing.
 #![tactic(auto)]
 
 mod promised;

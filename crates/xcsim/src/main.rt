@@ -1,4 +1,4 @@
-//! The program.
+//! The program: `main` hands its words, its files and its streams to the driver, and ends with the status that the driver answers.
 #![tactic(auto)]
 
 use std::alloc::Global;

@@ -1,4 +1,6 @@
-//! The sides of channels in which code stands.
+//! Which of a channel's two ends some code uses: the sides of channels in which the branches of a `par`, and the roots, stand.
+//!
+//! Proved is that these are the sides that a run of the kernel gives to the branches.
 #![tactic(auto)]
 
 mod branches;

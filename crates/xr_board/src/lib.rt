@@ -1,4 +1,7 @@
-//! Four cores side by side: cells under four locks, workers that take their turns, and what four cells tell.
+//! Four cores side by side: up to four threads of the host run the windows of xr_windows, each core in a cell under a lock of its own.
+//! The program doesn't go by it yet.
+//!
+//! Proved is that they answer what the run in lockstep tells, in whatever order they get the locks.
 #![tactic(auto)]
 
 mod alone;

@@ -1,5 +1,8 @@
-//! The commands: what the words of a command line mean, what is answered to them, and what is written. The program only has its words,
-//! files and streams besides.
+//! The driver: it reads the words of a command line, compiles the file's text, runs the image, and writes the listing and the trace, or
+//! what is wrong.
+//!
+//! `xcsim` is what the program calls, `still` the same for who has no threads. Their clauses are the promise of the whole program: what
+//! each sink gains, and with which cause each status comes.
 #![tactic(auto)]
 
 mod decide;

@@ -1,4 +1,6 @@
-//! Listings that are read: instructions from their text, images from that of a listing, and whether an image can be run.
+//! The reader of listings, for tests: from the text of a listing to its image, or of one instruction, and whether an image can be run.
+//!
+//! Proved is that an image which is read can be run. Which image that is isn't.
 #![tactic(auto)]
 
 mod channels;

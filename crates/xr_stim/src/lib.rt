@@ -1,5 +1,8 @@
-//! Stimuli: exactly what a text says, or the first line that breaks a rule. Lines, words and numbers are read without memory, and are for other
-//! texts too that are read by lines.
+//! The reader of stimuli, the inputs of a run: from a text to the values that the pins of ports get and the ticks at which they do, or
+//! the first line that breaks one of the rules 801 to 805.
+//!
+//! Proved is that a text has exactly one of the two, and that it is the one answered. Lines, words and numbers are read without memory,
+//! by calls that will serve other texts too that are read by lines. The program takes no stimulus yet.
 #![tactic(auto)]
 
 mod form;

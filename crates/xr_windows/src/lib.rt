@@ -1,4 +1,7 @@
-//! One core's windows of eight ticks, ahead of the others: they depend on that core and on what it was sent before.
+//! A run cut into windows of eight ticks, so that a core can run ahead of the others: what it does in a window depends on its own part
+//! of the run and on what the others sent to it in the window before. The program doesn't go by it yet.
+//!
+//! Proved is that this is so in every run in lockstep, and that the parts of the four cores tell the run's trace and how it ends.
 #![tactic(auto)]
 
 mod batch;

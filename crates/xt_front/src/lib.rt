@@ -1,5 +1,7 @@
-//! Cases of the compiler's front: source texts, and what must come of each by the public calls of the crates below. What comes
-//! is shown as text, and a report tells of the cases of a file how many they are, and each of which something else comes.
+//! Cases of the front: source texts, what must come of each by the public calls from `lex` to `disjoint`, and a report on the cases of
+//! a file.
+//!
+//! What comes is shown as text. The report tells how many cases there are, and each of which something else comes than is wanted.
 #![tactic(auto)]
 
 mod cases;
