@@ -6,7 +6,8 @@ use Rattle.xc_kernel.specs.Things.{Thing, variable, change, port, timer, channel
 use Rattle.xc_kernel.specs.Branches.{branch_at, pos_of}
 
 -- Two uses of which two branches of a `par` may not have one each: one changes a variable that the other uses, or both use a port or
--- a timer.
+-- a timer. Where a variable is declared isn't asked. A name that an input declares in one branch of a plain `par` is known in the
+-- later ones, so two branches can use it and one change it. For every other variable 'declared outside' would add nothing.
 pub data Clash : Thing → Thing → Type 0 where
   changed : (v : ℕ) → Clash (change v) (variable v)
   used : (v : ℕ) → Clash (variable v) (change v)

@@ -14,7 +14,11 @@ ends_by k r channel true = once (by_statements (things.channel channel) r.body)
 ends_by k r channel false = if_so (some_has_sides channel (uses_in channel (branches_of k.roots)) (pars.of_statements r.body)) 2
 
 -- The ends that a root needs for a channel. Where exactly two roots use the channel, these two are its sides and need one
--- each; else a root needs both where the sides are branches of a `par` in it.
+-- each; else a root needs both where the sides are branches of a `par` in it. A `par` holds all uses of a channel where it holds as
+-- many as the kernel has, so 'the innermost' needs no comparing of places. The roots are the branches of a `par` around everything. A
+-- channel whose uses don't lie in exactly two branches needs no ends: that it is wrong to use it so is no matter of needs. An end
+-- whose other side is on no core counts still, since a place that gives no core leaves out what is there, and not what belongs to it
+-- on other cores.
 abbrev pub ends_of : kernel.Kernel → kernel.Root → ℕ → ℕ
 ends_of k r channel = ends_by k r channel (nat_eq (users channel (branches_of k.roots)) 2)
 

@@ -35,7 +35,8 @@ pub data HasNoCore (k : kernel.Kernel) : Pos → Type 0 where
   of_root : (r : kernel.Root) → Contains k.roots r → r.core ≡ no_core → HasNoCore k r.place
   of_port : (p : PortUse) → Contains k.ports p → p.core ≡ no_core → HasNoCore k p.place
 
--- a root uses this port, which is on a core other than the root's
+-- A root uses this port, which is on a core other than the root's. Cores are compared as the kernel has them, 255 among them for a
+-- place that gives none.
 pub record IsElsewhere (k : kernel.Kernel) (r : kernel.Root) (u : Use) : Type 0 where
   pub among : Contains (uses.of_statements r.body) u
   pub number : ℕ
@@ -51,7 +52,8 @@ pub record UsesElsewhere (k : kernel.Kernel) (pos : Pos) : Type 0 where
   pub elsewhere : IsElsewhere k root used
   pub place : pos ≡ used.pos
 
--- a core needs more threads, channel ends, timers or words than it has, which breaks a rule at main
+-- A core needs more threads, channel ends, timers or words than it has, which breaks a rule at main. All four stand at one place, so
+-- the first that is broken is the least, and no more are looked at.
 pub data NeedsMore (k : kernel.Kernel) : Broken → Type 0 where
   threads : IsAbove most_threads (threads_on k) → NeedsMore k (record { rule = 701; pos = k.main })
   ends : IsAbove most_ends (ends_on k) → NeedsMore k (record { rule = 702; pos = k.main })

@@ -10,7 +10,8 @@ use Rattle.xc_kernel.specs.Statements.{calls_copy}
 use Rattle.xc_kernel.specs.Ports.{port_use}
 use Rattle.xc_kernel.specs.Roots.{Rooted, context_of, roots_of}
 
--- How calls are copied in a program: as no function calls itself, they go at most as deep as there are functions.
+-- How calls are copied in a program: as no function calls itself, they go at most as deep as there are functions. So the definitions
+-- need no premise.
 abbrev pub calls_of : List tree.Item → CopiesCall
 calls_of items = calls_copy (length (functions items))
 

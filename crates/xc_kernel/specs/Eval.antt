@@ -23,6 +23,7 @@ element_at words pos (error kind at) = error kind at
 element_at words pos (word i) = element_by words pos i (nat_lt i (length words))
 
 abbrev mutual
+  -- An expression errs in two ways, `arithmetic` and `index`. A mismatch is no matter of expressions.
   pub eval : Store → kernel.Expression → Value
   eval store (kernel.number v) = word v
   eval store (kernel.read place) = eval_place store place

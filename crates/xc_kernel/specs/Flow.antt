@@ -41,7 +41,8 @@ while_copy c pos test body = loop_copy c pos test (turn c (path_at c.path pos) b
 abbrev pub leave_unless : Context → Path → kernel.Expression → kernel.Statement
 leave_unless c path test = kernel.if_then test kernel.no_more (kernel.statements (leave c path ∷ []))
 
--- each turn ends with the test
+-- Each turn ends with the test. The body is the block of the loop's statement, and then an `if` that leaves the loop's block where the
+-- test is 0. So a `continue` meets the test.
 abbrev pub do_while_copy : Context → Pos → tree.Expression → Copy → Copy
 do_while_copy c pos test body =
     loop_copy c pos (kernel.number 1)

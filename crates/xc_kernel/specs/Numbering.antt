@@ -5,6 +5,8 @@ use Rattle.xc_kernel.specs.declared.kernel.Chan.{Chan}
 use Rattle.xc_kernel.specs.declared.kernel.Timer.{Timer}
 use Rattle.xc_kernel.specs.Paths.{Path, place_of_path, each_once}
 
+-- The copy of a statement depends on where it stands and on what its names stand for, and not on how many statements came before. So a
+-- statement in a loop has the same copy in each iteration.
 pub record Numbering : Type 0 where
   pub variables : List Var
   pub channels : List Chan

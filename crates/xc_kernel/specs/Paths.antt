@@ -7,12 +7,13 @@ use Rattle.xw_words.specs.declared.pos.Pos.{Pos}
 abbrev pub Path : Type 0
 Path = List ℕ
 
--- from an instance to what is called or declared in it at a place
+-- From an instance to what is called or declared in it at a place. A path has line and column for each step, and not one number, as
+-- the tree has no other names for its places.
 abbrev pub path_at : Path → Pos → Path
 path_at path pos = path ++ pos.line ∷ pos.col ∷ []
 
--- from an instance to a branch of a `par` in it, by the two words of the branch's index, the low one first; no line has the
--- number 0
+-- From an instance to a branch of a `par` in it, by the two words of the branch's index, the low one first; no line has the
+-- number 0. A 0 stands before each of the two words. So every index of a `par` has a path, and no two have the same.
 abbrev pub path_of_branch : Path → ℕ → Path
 path_of_branch path index = path ++ 0 ∷ index % 2 ^ 32 ∷ 0 ∷ index / 2 ^ 32 ∷ []
 

@@ -76,7 +76,7 @@ mutual
     no_default : Default
     default : Statements → Default
 
-  -- with the first token of its statement
+  -- With the first token of its statement. Rules on branches are answered at that place, and by then the tree is gone.
   pub data Branch : Type 0 where
     branch : Statements → Pos → Branch
 

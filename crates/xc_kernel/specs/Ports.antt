@@ -30,7 +30,8 @@ abbrev pub pos_of_place : Pos → Option tree.Place → Pos
 pos_of_place other None = other
 pos_of_place other (Some p) = p.first
 
--- the port of a place among all, or else the number of ports
+-- The port of a place among all, or else the number of ports. No program that breaks no rule of names has an identifier that no port
+-- has.
 abbrev pub port_at : Option ℕ → ℕ
 port_at None = port_count
 port_at (Some port) = port

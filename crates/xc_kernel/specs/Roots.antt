@@ -29,7 +29,8 @@ action_has_placed (tree.par bs) = has_placed bs
 action_has_placed (tree.replicated first second third from until b) = is_placed b && nat_lt from until
 action_has_placed other = false
 
--- whether a `par` directly in a block has a placed branch
+-- Whether a `par` directly in a block has a placed branch. A main with a placed branch has an instance and no result: nothing of its
+-- own is ever executed.
 abbrev pub block_has_placed : tree.Statements → Bool
 block_has_placed tree.no_more = false
 block_has_placed (tree.more (tree.statement action pos close own) ss) = action_has_placed action || block_has_placed ss
@@ -84,7 +85,8 @@ module _ (copies : CopiesCall) where
       root_of (core_of scope place) (pos_of_place main place) (pos_of_branch (tree.branch place s))
       (branch_copy copies (tree.branch place s) (record c { core = core_of scope place }) scope)
 
-  -- from an index on; a name that one branch declares is known in the later ones
+  -- From an index on; a name that one branch declares is known in the later ones. So a name that an input declares in a placed branch
+  -- is known in the later ones, as in each plain `par`.
   abbrev pub branch_roots : Pos → tree.Branches → ℕ → Context → Scope → Rooted
   branch_roots main tree.no_branch index c scope = no_roots (no_copy scope)
   branch_roots main (tree.more_branches b bs) index c scope =

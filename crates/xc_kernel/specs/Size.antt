@@ -7,7 +7,8 @@ use Rattle.xc_kernel.specs.Counts.{statements_of}
 use Rattle.xc_kernel.specs.Nodes.{nodes_of}
 use Rattle.xc_kernel.specs.Depths.{depth_of}
 
--- the limits
+-- The limits. The counts of xc_size go no further than one above these, so they are exact up to the limit, which is all that the rule
+-- asks.
 abbrev pub most_statements : ℕ
 most_statements = 100000
 

@@ -20,7 +20,8 @@ pos_of (tree.statement action pos close own) = pos
 abbrev pub pos_of_branch : tree.Branch → Pos
 pos_of_branch (tree.branch place s) = pos_of s
 
--- `place op= e`, or a step by 1
+-- `place op= e`, or a step by 1. `x++` has its operation at the place of x, since the tree has no place for the `++`. Nothing is ever
+-- reported there.
 abbrev pub update_copy : Context → Scope → tree.Expression → (symbol : ℕ) → Pos → Bool → kernel.Expression → Copy
 update_copy c scope to symbol pos u e = one_statement scope (kernel.set (place c scope to) (updated c.numbering scope to symbol pos u e))
 

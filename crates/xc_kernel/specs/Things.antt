@@ -76,6 +76,8 @@ by_input th i =
     by_resource th i.resource || (by_some_expression th i.time || (by_condition th i.condition || (by_some_target th i.target || by_some_target th i.stamp)))
 
 abbrev mutual
+  -- To set a declared variable to 0 counts as a change. Such a variable is known in its branch alone, so no text is refused by it, and
+  -- the laws of runs want it.
   pub by_statement : Thing → kernel.Statement → Bool
   by_statement th (kernel.set_zero v) = by_change th v
   by_statement th (kernel.set place e) = by_target th place || by_expression th e

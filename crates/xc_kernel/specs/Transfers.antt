@@ -32,7 +32,7 @@ stamp_of c scope t = place c scope t.value
 abbrev pub condition_of : Context → Scope → tree.Condition → kernel.Condition
 condition_of c scope w = record { test = w.test; value = expression c scope w.value }
 
--- the kernel's output
+-- The kernel's output. It has the place of the port's name in its statement.
 abbrev pub output_of : Context → Scope → tree.Output → kernel.Output
 output_of c scope o = record {
   resource = resource c scope o.name.text;

@@ -3,7 +3,9 @@ use Rattle.std.specs.Prelude.{ℕ, Bool, false, ◌||◌, List}
 use Rattle.xc_tree.specs.Plain as tree
 use Rattle.xc_kernel.specs.Operators.{Operator, shift_up, shift_down, both, either, equal, differs, less, greater, at_most, at_least, not_true, operator_at}
 
--- the type of what a name stands for
+-- The type of what a name stands for. Types of expressions are defined twice, as are operators and identifiers of ports: for the rules
+-- in xc_tree, by places in the text, and for the kernel here, by what a name stands for where a copy is made. `code_comes_from_text`
+-- of xc_wellformed ties types and operators. Of identifiers the kernels of the tests show what comes of it.
 pub data NameType : Type 0 where
   of_word : (is_unsigned : Bool) → NameType
   of_array : (is_unsigned : Bool) → NameType
@@ -21,7 +23,9 @@ elements_are_unsigned (of_word is_unsigned) = false
 elements_are_unsigned (of_array is_unsigned) = is_unsigned
 elements_are_unsigned of_other = false
 
--- an operation on two words is `unsigned` where one of them is, and a shift where its left one is
+-- An operation on two words is `unsigned` where one of them is, and a shift where its left one is. The type of an operation is that of
+-- its operands for all operators, `&&` and `||` among them, though for those two it changes nothing. The test of an index `[` alone
+-- counts as unsigned.
 abbrev pub operation_is_unsigned : Operator → Bool → Bool → Bool
 operation_is_unsigned shift_up a b = a
 operation_is_unsigned shift_down a b = a

@@ -43,7 +43,9 @@ pub record TooDeep (toks : List Tok) (room : ℕ) (s : Symbol) (i m : ℕ) : Typ
   pub most : (n : ℕ) → Prefix toks (at_most room) s i n → n ≤ m
 
 -- It is read up to j, but with room only its beginning is: what stands at j decides whether it is too deep or no such
--- symbol at all.
+-- symbol at all. So it is with a name without room behind `=` or `return`, which may begin a call. Where a `(` follows, it does. Where
+-- a token follows that a value could go on or end with there, as `+`, `[` or `;`, that token breaks 202. Where any other follows, it
+-- breaks 201.
 pub record Unfit (toks : List Tok) (room : ℕ) (s : Symbol) (i j : ℕ) : Type 0 where
   pub value : Value s
   pub derives : Derives toks unlimited s i j value

@@ -6,7 +6,7 @@ use Rattle.xc_tree.specs.declared.token.Kind.TheVariants.{Name, Num, Key, Sym}
 use Rattle.xc_tree.specs.Plain as tree
 use Rattle.xc_tree.specs.Words as words
 
--- the words of later forms, by their places in `WORDS`
+-- The words of later forms, by their places in `WORDS`. `on` is on the list by itself, and no symbol is a later form's.
 abbrev pub later_words : List ℕ
 later_words =
     words.in_word ∷ words.master_word ∷ words.on_word ∷ words.select_word ∷ words.slave_word ∷ words.timer_word ∷ []
@@ -33,7 +33,9 @@ is_word word (Key place) = nat_eq place word
 is_word word other = false
 
 -- The ports that are declared and the parameters that are ports are all `out port`: each `port` stands right behind an
--- `out`. It is told whether the token in front of the first one is an `out`.
+-- `out`. It is told whether the token in front of the first one is an `out`. `port` stands in declarations and parameters of ports
+-- alone and `out` only in front of it, so that says it of all of them. The tree wouldn't do, since it has no prototypes, and a text
+-- holds their parameters too.
 abbrev pub PortsAreOut : (behind_out : Bool) → List Tok → Type 0
 PortsAreOut behind_out [] = Unit {0}
 PortsAreOut behind_out (t ∷ ts) =

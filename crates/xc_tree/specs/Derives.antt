@@ -35,7 +35,8 @@ abbrev pub HasRoom : Room → ℕ → Type 0
 HasRoom unlimited n = Unit {0}
 HasRoom (at_most r) n = n ≤ r
 
--- what is left below n nodes
+-- What is left below n nodes. An alternative that makes a node leaves its parts room for one node less, and it may begin only where
+-- there is room for one.
 abbrev pub below : Room → ℕ → Room
 below unlimited n = unlimited
 below (at_most r) n = at_most (r - n)

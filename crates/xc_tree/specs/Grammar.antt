@@ -16,7 +16,10 @@ pub record Extent : Type 0 where
   pub last : Pos
   pub count : ℕ
 
--- An alternative: its symbols, what their values must fulfil, the nodes of the tree that it makes, and its value.
+-- An alternative: its symbols, what their values must fulfil, the nodes of the tree that it makes, and its value. Brackets, the name
+-- of a call and the name of a transfer are no nodes. So where no node has room inside a statement, `f(`, `p <:` and `p @` go on, and
+-- the next token decides. `x =`, `x[` and `x++` are too deep at their second token, since an assignment names a variable, which is a
+-- node. A `(` that opens brackets goes on, and what stands behind it is too deep.
 pub record Rule (V : Type 0) : Type 0 where
   pub parts : List Symbol
   pub fits : Values parts → Bool
@@ -107,6 +110,7 @@ rules (maybe s) =
 rules (commas s) =
     gives (s ∷ []) (λ (x, u). x ∷ []) ∷
     gives (s ∷ comma ∷ commas s ∷ []) (λ (x, (p, (xs, u))). x ∷ xs) ∷ []
+-- A prototype gives no item, so a text of prototypes alone is an empty program. Nothing in it is compared with the function.
 rules program =
     gives (many item ∷ []) (λ (is, u). kept is) ∷ []
 rules item =
@@ -141,6 +145,7 @@ rules word =
     gives (int_word ∷ []) (λ x. false) ∷
     gives (unsigned_word ∷ []) (λ x. true) ∷
     gives (unsigned_word ∷ int_word ∷ []) (λ x. true) ∷ []
+-- `int main()` has the same tree as `int main(void)`.
 rules params =
     gives [] (λ u. []) ∷
     gives (void_word ∷ []) (λ x. []) ∷
@@ -196,10 +201,10 @@ rules statement =
     (λ (p, (q, (c, (cs, u)))). plain.select (plain.more_cases c (plain.cases cs))) ∷
     does (master_word ∷ block ∷ []) (λ (p, (ss, u)). plain.transaction true (plain.statements ss)) ∷
     does (slave_word ∷ block ∷ []) (λ (p, (ss, u)). plain.transaction false (plain.statements ss)) ∷ []
--- a statement to which a following `else` doesn't belong
+-- A statement to which a following `else` doesn't belong. So an `else` belongs to the nearest `if`.
 rules closed =
     only statement (λ s. not (plain.is_open s)) (λ s. s) ∷ []
--- what stands directly in a case
+-- What stands directly in a case. No statement there is `break ;`, so a case ends at its first one.
 rules case_item =
     gives (decl ∷ []) (λ (s, u). s) ∷
     only statement (λ s. not (plain.is_break s)) (λ s. s) ∷ []

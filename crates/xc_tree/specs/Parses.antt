@@ -34,7 +34,8 @@ place_at toks end i = place_or end (slice_get toks i)
 abbrev pub BreaksRule : List Tok → ℕ → ℕ → Type 0
 BreaksRule toks rule i = ((rule ≡ 201) × Breaks201 toks i) ⊎ ((rule ≡ 202) × Breaks202 toks i)
 
--- the broken rule at the least token, and there the least of both; `end` is the place just behind the text
+-- The broken rule at the least token, and there the least of both; `end` is the place just behind the text. The end of the text counts
+-- behind all tokens. At one token only one of the two can be broken, since 202 needs that a program goes on there.
 pub record FirstBroken (toks : List Tok) (end : Pos) (b : Broken) : Type 0 where
   pub at : ℕ
   pub breaks : BreaksRule toks b.rule at

@@ -16,7 +16,9 @@ pub record IsChangedOn (rs : List kernel.Root) (core number : ℕ) : Type 0 wher
   pub there : root.core ≡ core
   pub changes : by_statements (change number) root.body ≡ true
 
--- the variable of this number is on this core, or some root on the core where it is changes it
+-- The variable of this number is on this core, or some root on the core where it is changes it. The exception is for a name that an
+-- input declares in a placed branch, which is known in the later ones. It names what rule 601 refuses: a root on the variable's own
+-- core that changes it.
 pub record VariableOn (vs : List Var) (rs : List kernel.Root) (core number : ℕ) : Type 0 where
   pub variable : Var
   pub there : slice_get vs number ≡ Some variable

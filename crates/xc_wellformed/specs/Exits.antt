@@ -34,7 +34,8 @@ abbrev mutual
   DefaultLeavesIn around free kernel.no_default = Unit {0}
   DefaultLeavesIn around free (kernel.default a) = AllLeaveIn around free a
 
-  -- a branch may leave no block around its `par`
+  -- A branch may leave no block around its `par`. Its blocks have other numbers than those around the `par` too, though no exit could
+  -- mean those.
   pub BranchesLeaveIn : (around : List ℕ) → kernel.Branches → Type 0
   BranchesLeaveIn around kernel.no_branch = Unit {0}
   BranchesLeaveIn around (kernel.more_branches (kernel.branch a pos) bs) =

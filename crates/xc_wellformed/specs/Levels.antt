@@ -26,7 +26,7 @@ most_levels = 400
 abbrev pub IsLow : kernel.Expression → Type 0
 IsLow e = levels e ≤ most_levels
 
--- a place is as its reading
+-- A place is as its reading. So what stores and what loads ask the same.
 abbrev pub IsLowPlace : kernel.Place → Type 0
 IsLowPlace p = levels (kernel.read p) ≤ most_levels
 

@@ -14,6 +14,7 @@ abbrev pub PathsDiffer : {V : Type 0} → (V → Path) → List V → Type 0
 PathsDiffer path_of [] = Unit {0}
 PathsDiffer path_of (x ∷ xs) = NoneAt path_of (path_of x) xs × PathsDiffer path_of xs
 
+-- Two instances are alike in nothing that paths don't say. Nothing in the copy rule rests on it.
 pub record NoneTwice (copy : Copy) : Type 0 where
   pub variables : PathsDiffer path_of_variable copy.variables
   pub channels : PathsDiffer path_of_channel copy.channels

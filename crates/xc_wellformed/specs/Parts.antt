@@ -34,7 +34,7 @@ of_condition (Some w) = of_expression w.value
 abbrev pub of_output : kernel.Output → ℕ
 of_output o = of_maybe o.time + of_expression o.value + of_some_place o.stamp
 
--- an input is 1 by itself, since it may have none of these
+-- An input is 1 by itself, since it may have none of these. Also one into nothing, since it has code.
 abbrev pub of_input : kernel.Input → ℕ
 of_input i =
     of_maybe i.time + of_condition i.condition + of_some_place i.target + of_some_place i.stamp + 1
@@ -83,7 +83,9 @@ module _ (vs : List Var) where
   of_roots [] = 0
   of_roots (r ∷ rs) = of_statements r.body + 1 + of_roots rs
 
--- the most parts of what is compiled
+-- The most parts of what is compiled. Words that are set to 0 count, and before the words of a core are counted (704) there may be too
+-- many of them. So the number of parts isn't a part of being well formed. That so many suffice is proved with thirds of a part for
+-- each node, statement and word.
 abbrev pub most_parts : ℕ
 most_parts = 4000000
 

@@ -31,7 +31,8 @@ ACK = 3
 abbrev pub OPEN : ℕ
 OPEN = 16
 
--- a step of a protocol
+-- A step of a protocol. Inside a transaction and on a streaming channel a transfer is its first step alone. The same definitions serve
+-- both, by `plain`.
 pub data Act : Type 0 where
   -- these tokens go to the peer
   sends : (tokens : List Token) → Act

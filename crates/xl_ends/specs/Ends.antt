@@ -20,7 +20,8 @@ end_of_side None side = None
 end_of_side (Some places) None = None
 end_of_side (Some places) (Some side) = Some (place_of places side)
 
--- the place of the end that code uses which stands in these sides, by the places of both sides' ends
+-- The place of the end that code uses which stands in these sides, by the places of both sides' ends. Code in no side of a channel has
+-- no end. The rules on sides say that no such code stands in a checked kernel, so what it would do is never asked.
 abbrev pub end_at : (channels : List EndPlaces) → Sides → (channel : ℕ) → Option ℕ
 end_at channels sides c = end_of_side (slice_get channels c) (slice_index_or sides c None)
 

@@ -107,7 +107,9 @@ abbrev pub added_to : Operator → Direct → Option ℕ
 added_to operator.plus (Number v) = Some v
 added_to o d = None
 
--- a direct operand and the word in r0, in their order, make the word in r0
+-- A direct operand and the word in r0, in their order, make the word in r0. The direct operand goes straight into the second register,
+-- whether it is the second or the first. A number and a word next to dp can't err, so the other operand may be found before it. A
+-- number that is added or taken away is put into an ADD with a number.
 abbrev pub direct_tail : Operator → Bool → Direct → Option ℕ → Reg → Reg → List Instr
 direct_tail o u d (Some n) a b = Addi R0 R0 n ∷ []
 direct_tail o u d None a b = brought d R11 ∷ two_tail o u a b
@@ -173,7 +175,8 @@ abbrev pub where_below : ℕ → Bool → Option ℕ
 where_below i true = Some i
 where_below i false = None
 
--- an index that needs no test: a number below the length
+-- An index that needs no test: a number below the length. It needs none when an element is read and when it is written, and next to dp
+-- its element is a word like any other. A number that isn't below is tested as each index is, so its error comes where `eval` has it.
 abbrev pub fixed_index : kernel.Expression → (length : ℕ) → Option ℕ
 fixed_index (kernel.number i) words = where_below i (nat_lt i words)
 fixed_index other words = None

@@ -31,7 +31,8 @@ pub record Named (relied : ℕ → Bool) (t : ℕ) (thread : Thread) (old : List
   pub words : (w : ℕ) → relied w ≡ true → slice_get b.words w ≡ slice_get old w
 
 -- The lines give an identifier in r11: wherever they stand, and whatever other threads do in between, the thread comes within two
--- own steps, which leave all words but its temporary ones, to the index behind them; the words that it relies on are then as they were.
+-- own steps, which leave all words but its temporary ones, to the index behind them; the words that it relies on are then as they
+-- were. It has a call of its own, `emit_identifier`, since every piece that uses a resource begins with it.
 pub record Identifies (place : ResAt) (pc : ℕ) (lines : List Line) : Type 0 where
   pub by : (home : Home) (relied : ℕ → Bool) (s t name : ℕ) (thread : Thread) (a : CoreState) →
       StandAt home.parts.code pc lines → RunsAt t pc thread a →

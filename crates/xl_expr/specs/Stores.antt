@@ -127,7 +127,7 @@ StoreOutcome vars home relied s t thread old place v pc (error kind pos) b = (c 
 
 -- The lines write a register's word to a place: wherever they stand and whatever other threads do, after fewer than 8 own steps
 -- for each node the thread stands where its next step writes the word at the place's address, or its next step traps with the
--- index's error.
+-- index's error. The write is the step at which the program does its own, and the code ends before it.
 pub record Stores (vars : List (Option VarPlan)) (place : kernel.Place) (from : Reg) (pc : ℕ) (lines : List Line) : Type 0 where
   pub by : (home : Home) (relied : ℕ → Bool) (s t : ℕ) (thread : Thread) (store : Store) (a : CoreState) →
       StandAt home.parts.code pc lines → RunsAt t pc thread a → HasRoom relied s thread.regs a.words →

@@ -28,7 +28,8 @@ words_set (Near n) words = words
 words_set (Far n) words = words
 words_set (Through n) words = 1
 
--- what writes r0 to word i: from dp + 4n on, or from the address in r11 on
+-- What writes r0 to word i: from dp + 4n on, or from the address in r11 on. So a word next to dp becomes 0 by one instruction, and any
+-- other by two, where r10 holds the index.
 abbrev pub near_write : (n i : ℕ) → List Instr
 near_write n i = Stwdp R0 ((n + i) % 2 ^ 32) ∷ []
 
@@ -94,7 +95,8 @@ pub record WritesLast
 
 -- The lines set a variable's words to 0: wherever they stand, and whatever other threads do in between, the thread comes within two
 -- own steps for each word and two more, which change no other word, to the index behind them. Where there are words, the last of these
--- steps is the one that writes the last of them.
+-- steps is the one that writes the last of them. There the program's variable becomes 0 as a whole, and till then its words are the
+-- thread's own business.
 pub record Zeroes (vars : List (Option VarPlan)) (variable pc : ℕ) (lines : List Line) : Type 0 where
   pub by : (found : VarPlan) → var_in vars variable ≡ Some found →
       (home : Home) (relied : ℕ → Bool) (t base : ℕ) (thread : Thread) (a : CoreState) →

@@ -137,7 +137,8 @@ abbrev pub pair_where : Bool → Pair → List Pair
 pair_where true pair = pair ∷ []
 pair_where false pair = []
 
--- those of the channels below a number that are used, in the kernel's order
+-- Those of the channels below a number that are used, in the kernel's order. A channel without two sides has no line and no end, as
+-- the machine has none for it. So line k is the k-th channel that has two sides.
 abbrev pub pairs_below : kernel.Kernel → (channels : ℕ) → List Pair
 pairs_below k zero = []
 pairs_below k (suc c) = pairs_below k c ++ pair_where (is_used k c) (pair_of k c)

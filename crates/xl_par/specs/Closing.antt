@@ -27,7 +27,8 @@ pub record EndsSlave (pc : ℕ) (lines : List Line) : Type 0 where
       slot home a t ≡ makes (with_thread a t (record thread { mode = Waiting; pc = thread.pc + 1 }))
 
 -- r10 gets the synchroniser that is in r1, and r1 to r6 get back what the next registers hold; then all are waited for, and the
--- synchroniser is given back
+-- synchroniser is given back. The registers move back before the join, so that nothing is left to do once the synchroniser is given
+-- back.
 abbrev pub taking_back_instrs : List Instr
 taking_back_instrs =
     Or R10 R1 R1 ∷ (Or R1 R2 R2 ∷ (Or R2 R3 R3 ∷ (Or R3 R4 R4 ∷ (Or R4 R5 R5 ∷ (Or R5 R6 R6 ∷ (Or R6 R7 R7 ∷ []))))))

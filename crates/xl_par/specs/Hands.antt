@@ -53,8 +53,8 @@ pub record HasSpare (hand : Hand) (core : CoreState) : Type 0 where
   pub no_events : (u : ℕ) (x : Thread) → slice_get core.threads u ≡ Some x → x.mode ≡ Unused → x.event_bit ≡ false
   pub untied : (n u : ℕ) (x : Thread) → slice_get core.syncs n ≡ Some false → slice_get core.threads u ≡ Some x → is_tied x n ≡ false
 
--- the rely: what others leave as it is, the thread, the words of `relied`, and what it has got, to which they tie nothing; and there is
--- still what it lacks
+-- The rely: what others leave as it is, the thread, the words of `relied`, and what it has got, to which they tie nothing; and there is
+-- still what it lacks. This last is a premise on each state between the steps, and not on the first alone.
 pub record KeptHand (relied : ℕ → Bool) (t : ℕ) (hand : Hand) (a b : CoreState) : Type 0 where
   pub own : Kept relied t a b
   pub sync : (n : ℕ) → hand.sync ≡ Some n → slice_get b.syncs n ≡ slice_get a.syncs n

@@ -23,7 +23,8 @@ use Rattle.xs_instr.specs.declared.emitter.Hole.{Hole}
 use Rattle.xl_expr.specs.Targets.{AreGoodLines}
 use Rattle.xl_par.specs.Hands.{Hand, IsAmong, KeptHand, WithinHand, empty_hand}
 
--- r1 to r7 hold the synchronisers of the `par`s that the thread is in, the innermost in r1: each goes to the next register
+-- r1 to r7 hold the synchronisers of the `par`s that the thread is in, the innermost in r1: each goes to the next register. Eight
+-- threads can't be nested deeper on one of them than seven.
 abbrev pub keeping_instrs : List Instr
 keeping_instrs = Or R7 R6 R6 ∷ (Or R6 R5 R5 ∷ (Or R5 R4 R4 ∷ (Or R4 R3 R3 ∷ (Or R3 R2 R2 ∷ (Or R2 R1 R1 ∷ [])))))
 
@@ -31,8 +32,9 @@ keeping_instrs = Or R7 R6 R6 ∷ (Or R6 R5 R5 ∷ (Or R5 R4 R4 ∷ (Or R4 R3 R3 
 abbrev pub beginning_instrs : List Instr
 beginning_instrs = keeping_instrs ++ Ldc R8 8 ∷ (Ldc R9 5 ∷ (Getr R1 GetSync ∷ []))
 
--- a thread's identifier, without the core's number and times 8, and this are the address of its temporary words, where those of thread 0
--- begin at a word
+-- A thread's identifier, without the core's number and times 8, and this are the address of its temporary words, where those of thread 0
+-- begin at a word. The machine gives the number within an identifier, from which the address comes by two shifts, so it is the same
+-- code on each core.
 abbrev pub stack_offset : (stacks : ℕ) → ℕ
 stack_offset stacks = (4 * stacks + 2 ^ 32 - 32) % 2 ^ 32
 
@@ -146,7 +148,8 @@ pub record SetsOff
 
 -- The lines open a `par`: wherever they stand from index pc on, with any starts, in each state of a core that has the threads and the
 -- synchroniser for it, and whatever other threads do in between that leaves what this one relies on and what it has got, and of what it
--- lacks as much, the thread comes within so many own steps to where its next one sets all off.
+-- lacks as much, the thread comes within so many own steps to where its next one sets all off. A start may be any index, since the
+-- holes are landed later.
 pub record Opens (stacks slaves : ℕ) (pos : Pos) (pc : ℕ) (lines : List Line) : Type 0 where
   pub by : (home : Home) (relied : ℕ → Bool) (t : ℕ) (thread : Thread) (starts : List ℕ) (a : CoreState) →
       home.number < 4 → length starts ≡ slaves →

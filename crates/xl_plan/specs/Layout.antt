@@ -24,11 +24,13 @@ use Rattle.xl_plan.specs.declared.channels.SideCores.{SideCores}
 abbrev pub words_here : (core : ℕ) → Var → ℕ
 words_here core v = on_core core v.core v.words
 
--- the word where the variable of this number begins: behind the words of the core's variables before it
+-- The word where the variable of this number begins: behind the words of the core's variables before it. dp is 0 on each core, as at
+-- the start, so a variable's number is its word, and all are near.
 abbrev pub word_of : (core : ℕ) → List Var → (number : ℕ) → ℕ
 word_of core vs number = sum_by (words_here core) (take number vs)
 
--- the word where the temporary words of the core's threads begin: behind those that its instances and its variables need
+-- The word where the temporary words of the core's threads begin: behind those that its instances and its variables need. Parameters
+-- and results count by their instances, and have at most a word for each parameter and one for a result.
 abbrev pub first_temporary : kernel.Kernel → (core : ℕ) → ℕ
 first_temporary k core =
     sum_by (words_of_instance core) k.instances + sum_by (words_of_variable core) k.variables

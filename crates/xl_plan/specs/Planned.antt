@@ -48,7 +48,8 @@ NoneIsTemporary k core vars =
     (v n i thread : ℕ) (found : VarPlan) → IsNear vars v n found → i < found.words →
     IsApart (temporary_of k core thread) (n + i)
 
--- the ports of the core, in the kernel's order
+-- The ports of the core, in the kernel's order. An image declares them in that order, and their numbers go by it, as those of timers
+-- do.
 abbrev pub ports_on : (core : ℕ) → List PortUse → List PortUse
 ports_on core ps = filter (λ p. nat_eq p.core core) ps
 
@@ -86,6 +87,8 @@ HasUsedTimers k core places =
 abbrev pub HasEnds : kernel.Kernel → (core : ℕ) → List ResAt → Type 0
 HasEnds k core ends = ends ≡ ends_below core (ends_before k core (length k.channels))
 
+-- The second side's end is next to the first side's. A channel that no root on the core uses has the number that comes next, and no
+-- end there.
 abbrev pub HasChannels : kernel.Kernel → (core : ℕ) → List EndPlaces → Type 0
 HasChannels k core channels = channels ≡ end_places k core (length k.channels)
 

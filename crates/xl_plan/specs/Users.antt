@@ -10,7 +10,8 @@ use Rattle.xl_plan.specs.Layout.{second_or}
 abbrev pub uses_of_root : (channels : ℕ) → kernel.Root → RootUses
 uses_of_root n r = record { core = r.core; used = uses_among n r.body }
 
--- the cores of a channel's sides: those of the first root that uses it and of the last one
+-- The cores of a channel's sides: those of the first root that uses it and of the last one. In a checked kernel two roots at most use
+-- a channel, and where one alone does, both sides are in it.
 abbrev pub cores_among : (channel : ℕ) → List RootUses → Option SideCores
 cores_among c [] = None
 cores_among c (u ∷ us) =

@@ -56,7 +56,9 @@ abbrev pub setting_instrs : (is_timed : Bool) → List Instr
 setting_instrs true = Setc R11 NoCond ∷ Setpt R11 R10 ∷ []
 setting_instrs false = Setc R11 NoCond ∷ []
 
--- and then r0 goes out
+-- And then r0 goes out. OUT on a port pauses until the time is come. The time comes to r10, which the value's code leaves, so both
+-- words are there before the port is touched. The port is cleared first (SETC), so nothing has to be known of how it is set between
+-- two transfers.
 abbrev pub transfer_instrs : (is_timed : Bool) → List Instr
 transfer_instrs true = Setc R11 NoCond ∷ Setpt R11 R10 ∷ Out R11 R0 ∷ []
 transfer_instrs false = Setc R11 NoCond ∷ Out R11 R0 ∷ []

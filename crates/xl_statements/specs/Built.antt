@@ -105,6 +105,7 @@ abbrev mutual
 -- the most instructions that a statement has, by where the variables stand
 module _ (vars : List (Option VarPlan)) where
   abbrev mutual
+    -- A `par` has 13 instructions for each branch, beside those of the branch and its end.
     pub most : kernel.Statement → ℕ
     most (kernel.set_zero v) = room_of (var_in vars v)
     most (kernel.set place x) = 8 * (nodes x + nodes_at place)

@@ -23,7 +23,9 @@ use Rattle.xl_statements.specs.declared.walk.Leaving.{Leaving}
 use Rattle.xl_statements.specs.Cells.{Cell, known, leaving, behind, closed, leaves, line_of}
 use Rattle.xl_statements.specs.Landing.{all_landed}
 
--- the cells of some code, by the place in front and the first index
+-- The cells of some code, by the place in front and the first index. A jump has the place of the instruction in front of it, and the
+-- branch behind a test that of the instruction in front of the test. What opens and what closes a `par`, the jump past the other
+-- branches and what ends each of these have the place of the instruction in front too.
 abbrev pub Coded : Type 1
 Coded = Pos → ℕ → List Cell → Type 0
 

@@ -11,7 +11,10 @@ use Rattle.xl_statements.specs.Cells.{known}
 use Rattle.xl_statements.specs.Emits.{AllEmit}
 use Rattle.xl_statements.specs.Inside.{AreInside}
 
--- the code of its statements, of which no jump is open and no `exit` leaves a branch, and behind it the instruction that ends the root
+-- The code of its statements, of which no jump is open and no `exit` leaves a branch, and behind it the instruction that ends the
+-- root. What sets the root's stack (in xl_image), and what ends the root, has the root's place: that of its branch's statement, or of
+-- main's name. What has no place and stands at the begin of a root has it too, and not 1:1. No block is open in a branch of a `par`,
+-- since no exit leaves one.
 pub record IsRoot
     (plan : Plan) (sides : Sides) (body : kernel.Statements) (pos last : Pos) (pc : ℕ) (lines : List Line) : Type 0 where
   pub front : List Line

@@ -17,7 +17,9 @@ IsInRange AtEnd = Unit {0}
 IsInRange Stopped = Unit {0}
 IsInRange Memory = Unit {0}
 
--- an answer that core i of a run of n ticks can give: a window of the run, or another core's batch of a window that isn't the last one
+-- An answer that core i of a run of n ticks can give: a window of the run, or another core's batch of a window that isn't the last
+-- one. Another thread may take the lock before and after, so what a cell was like is known only within its lock, and out of it this
+-- alone.
 abbrev pub CanAnswer : ℕ → ℕ → BoardTurn → Type 0
 CanAnswer n i (Ran window) = window < windows_of n
 CanAnswer n i (Lacks from window) = (from < 4) × (from ≢ i) × (window + 1 < windows_of n)

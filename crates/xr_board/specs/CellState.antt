@@ -6,7 +6,9 @@ use Rattle.xr_windows.specs.Sending.{Sending}
 use Rattle.xs_instr.specs.declared.image.Image.{Image}
 use Rattle.xs_instr.specs.declared.image.Stim.{Stim}
 
--- a core's part, whether the stop mark is set, and what has come, by the number of the sender
+-- A core's part, whether the stop mark is set, and what has come, by the number of the sender. A neighbour is at most one window
+-- ahead, since it lacks a batch of this core until then, so two places for each core are enough. The places for the own core stay
+-- empty by the type.
 pub record CellState : Type 0 where
   pub part : Part
   pub stopped : Bool

@@ -38,7 +38,8 @@ parcel_of (offers v) = offer v
 parcel_of opens = opening
 parcel_of closes = closing
 
--- where a side stands
+-- Where a side stands. Transactions and streaming channels have their phases, though the simulation doesn't have them yet: the
+-- relation is stated for all, so that nothing of it has to be proved again.
 pub data Phase : Type 0 where
   -- in no piece on the channel
   between : Phase

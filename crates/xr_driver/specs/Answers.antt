@@ -41,7 +41,8 @@ abbrev pub status_of_run : Bool → EndWord → ℕ
 status_of_run true word = 3
 status_of_run false word = status_of_word word
 
--- Each outcome with its cause: one row for each that there is.
+-- Each outcome with its cause: one row for each that there is. Where memory is wanting for the words themselves, `main` answers
+-- without a call, and writes nothing, as for words that the system doesn't give (15).
 pub data Decided (words : List (List ℕ)) (shelf : Loads) : Outcome → Type 0 where
   no_command : means words ≡ None → Decided words shelf (says 2 usage_line)
   missing : (c : Command) (name : List ℕ) → means words ≡ Some c → IsDue shelf.files c name →

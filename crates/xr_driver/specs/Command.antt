@@ -50,7 +50,8 @@ is_ticks word = bytes_eq word (codes "--ticks")
 abbrev pub run_for : (file : List ℕ) → Option ℕ → Option Command
 run_for file ticks = if is_operand file then option_map (λ n. Run file n None) ticks else None
 
--- What the words behind `run` ask for: a file, and at most once, before it or behind it, `--ticks` and a number.
+-- What the words behind `run` ask for: a file, and at most once, before it or behind it, `--ticks` and a number. So there are three
+-- forms, and no other words are left as long as a run has one file and one option.
 abbrev pub run_of : List (List ℕ) → Option Command
 run_of (file ∷ []) = run_for file (Some default_ticks)
 run_of (first ∷ second ∷ third ∷ []) =

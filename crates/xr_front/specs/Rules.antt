@@ -84,6 +84,8 @@ IsEarlier a b = rank a < rank b
 -- A text breaks a rule of a phase: it has a tree that isn't built today; its bytes break a rule; it has tokens, and these break one; it
 -- has a tree, and this breaks one of names; its names are whole, and it breaks one of types and shapes; it breaks none of these, and is
 -- too large with all its copies; it is small enough, and its kernel breaks a rule of branches that keep apart or of what a core has.
+-- Rule 299 is the first phase, and needs a tree, so no text breaks it beside a rule on tokens or grammar. A text's kernel is the one
+-- copy of its program, so rules on size, branches and needs are told by the text alone.
 pub data Breaks (text : List ℕ) : Phase → Broken → Type 0 where
   of_form : (items : List Item) (tree : IsTree text items) → (IsBuiltToday tree.toks items → ⊥) → Breaks text Form not_built
   of_bytes : (b : Broken) → BreaksInBytes text b → Breaks text Bytes b
@@ -99,7 +101,8 @@ pub record First (text : List ℕ) (b : Broken) : Type 0 where
   pub breaks : Breaks text phase b
   pub least : (later : Phase) (other : Broken) → Breaks text later other → IsEarlier phase later ⊎ ((phase ≡ later) × IsNotAfter b other)
 
--- the text has this tree, and breaks no rule
+-- The text has this tree, and breaks no rule. It says itself that no rule is broken, so a reader needs no law to see that no text is
+-- both accepted and refused.
 pub record IsAccepted (text : List ℕ) (P : List Item) : Type 0 where
   pub tree : IsTree text P
   pub unbroken : (phase : Phase) (b : Broken) → Breaks text phase b → ⊥

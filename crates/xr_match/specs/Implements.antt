@@ -75,7 +75,9 @@ pub record IsQuietMachine (L : Image) (s : Stim) (m : Machine) : Type 0 where
 pub record IsQuietBehind (L : Image) (s : Stim) (m : Machine) (cores : List ℕ) : Type 0 where
   pub quiet : (later : Machine) → runs L s m (map Tick cores) ≡ Some later → IsQuietMachine L s later
 
--- where the machine is quiet behind some ticks, so is the program behind the same, if it can do them
+-- Where the machine is quiet behind some ticks, so is the program behind the same, if it can do them. Without the ticks there would be
+-- a run of the program of its own for each longer list of them. The premise is of the machine behind those ticks that it can do, so
+-- whoever uses it need not look at the clocks.
 abbrev pub QuietAgree : Image → (P : Source) → Stim → Machine → P.State → Type 0
 QuietAgree L P s m x =
     (cores : List ℕ) → IsQuietBehind L s m cores → (y : P.State) → allowed P s x (map P.clock cores) ≡ Some y → P.IsQuiet s y

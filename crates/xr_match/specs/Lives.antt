@@ -22,7 +22,8 @@ pub record Tying : Type 0 where
 
 -- A life is one use of a hardware thread, from boot or from where it is got to where it is freed: the family that it belongs to, the
 -- steps that it has done, how many `par`s it got a synchroniser for, and for which `par` it got each synchroniser last. A thread that is
--- tied to a synchroniser which its maker didn't get belongs to no family.
+-- tied to a synchroniser which its maker didn't get belongs to no family. The j-th synchroniser that a life gets is that of its
+-- family's j-th `par` of two or more branches. A thread of no family may do no more than the bound of one action.
 pub record Life : Type 0 where
   pub family : Option Family
   pub steps : ℕ
@@ -32,7 +33,8 @@ pub record Life : Type 0 where
 abbrev pub begun : Option Family → Life
 begun family = record { family = family; steps = 0; pars = 0; tyings = λ synchroniser. None }
 
--- A machine with the last life of each of its threads. A life that has ended stands here until its thread is got again.
+-- A machine with the last life of each of its threads. A life that has ended stands here until its thread is got again. From then on
+-- the count of its family only grows.
 pub record Watched : Type 0 where
   pub machine : Machine
   pub lives : (core thread : ℕ) → Life

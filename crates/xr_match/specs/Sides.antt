@@ -13,5 +13,6 @@ abbrev pub two_sided_among : kernel.Kernel → (channels : ℕ) → List ℕ
 two_sided_among K zero = []
 two_sided_among K (suc channel) = two_sided_among K channel ++ where_so (has_two_sides K channel) channel
 
+-- Line k of an image's `.chan` lines is the k-th of them, and its first end the first side.
 abbrev pub two_sided : kernel.Kernel → List ℕ
 two_sided K = two_sided_among K (length K.channels)

@@ -18,7 +18,9 @@ module _ (plan : Plan) (code : Code) where
     pub stands : P index further
     pub sum : here + further ≡ j
 
-  -- the mark of a block is where the innermost open block ends
+  -- The mark of a block is where the innermost open block ends. Blocks begin and end as soon as they can, in the piece of the action
+  -- before them. So does the end of the first branch of a `par`: it comes with the branch's last action, before the thread is at the
+  -- MJOIN.
   pub record MarkAt (block : ℕ) (Others : List Exit → (pc j : ℕ) → Type 0) (exits : List Exit) (pc j : ℕ) : Type 0 where
     pub outer : List Exit
     pub innermost : exits ≡ record { block = block; index = pc } ∷ outer

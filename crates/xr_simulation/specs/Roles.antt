@@ -17,7 +17,8 @@ use Rattle.xr_simulation.specs.ThreadViews.{Owns, giving_back, held_in, sync_in}
 use Rattle.xr_simulation.specs.Turns.{IsFree, IsWaitingTied}
 
 -- A thread is unused; or it was got by another one of its core for a `par` that that one is opening; or it runs a branch, with what it has in
--- hand.
+-- hand. Which thread runs which branch is a part of what stands between the two sides, and not fixed for a run: a `par` makes and
+-- takes back threads.
 pub data Role : Type 0 where
   unused : Role
   got_by : (thread : ℕ) → Role

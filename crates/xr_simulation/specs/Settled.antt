@@ -16,7 +16,9 @@ abbrev pub IsOutermost : List Parent → Type 0
 IsOutermost [] = Unit {0}
 IsOutermost (p ∷ ps) = ⊥
 
--- the first item has an instruction of its own
+-- The first item has an instruction of its own. Behind an event threads may stand at items that have none, and settle one after the
+-- other while the machine stands still. So an event speaks of its own step alone, and a `par` of one branch is one more case of
+-- settling.
 abbrev pub IsOwn : List Parent → List Item → Type 0
 IsOwn ps (does (kernel.block n ss) ∷ rest) = ⊥
 IsOwn ps (does (kernel.par bs) ∷ rest) = HasSeveral bs

@@ -7,6 +7,8 @@ use Rattle.xc_meaning.specs.States.Items.{Item, awaits, chooses}
 use Rattle.xl_chan.specs.Protocols.{ACK, Act, input_ends, output_ends, sends, takes}
 use Rattle.xr_channels.specs.Phases.{Phase, awaits_ack, between, checks_end, closes, offers, opens, sends_ack, sends_end, streams, was_closed}
 
+-- The output's word goes at OUT, which is the program's offer. It is taken at IN, the program's input. The answer's arrival at CHKCT
+-- ACK ends the output. Between these the program stands still.
 pub record Transfer : Type 0 where
   pub channel : ℕ
   pub side : Side

@@ -50,7 +50,8 @@ pub data Stance (g : Setting) (who : Roles) (c : ℕ) (side : Side) (at : Spot) 
       Stance g who c side at late
 
 -- The one relation of all channels: a side of a channel stands where the thread does that has begun a transfer on it, and else in no piece; and
--- there is at most one such thread. It is on the core of the channel's sides.
+-- there is at most one such thread. It is on the core of the channel's sides. Where each side of a line stands is a ghost: the machine
+-- has tokens and credits alone, and a thread outside a transfer tells nothing of which side it was on.
 pub record AreWired (g : Setting) (who : Roles) (m : Machine) (x : World) : Type 0 where
   pub ghosts : Ghosts
   pub local : Local g.image.chans m.cores (boxes_in g.program x.inboxes) ghosts

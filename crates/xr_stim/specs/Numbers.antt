@@ -14,6 +14,7 @@ is_number word = is_some_bytes word && list_all is_ascii_digit word
 abbrev pub number : List ℕ → Option ℕ
 number word = if is_number word then Some (digits_value 10 word) else None
 
--- the same, where a greater number is told as the most that can be told
+-- The same, where a greater number is told as the most that can be told. The reader tells 2^64 or more as 2^64 - 1, since all who ask
+-- compare it with less.
 abbrev pub number_up_to : ℕ → List ℕ → Option ℕ
 number_up_to most word = option_map (λ n. min n most) (number word)

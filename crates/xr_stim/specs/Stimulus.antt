@@ -43,7 +43,8 @@ has_wide_value last n _ = false
 abbrev pub is_too_many : ℕ → ℕ → Form → Bool
 is_too_many last n form = nat_lt most_lines n
 
--- the rules in rising order, each with what breaks it
+-- The rules in rising order, each with what breaks it. The least broken rule is the first of the table that is broken. Line 100,001
+-- breaks a rule, so no count can run over.
 abbrev pub rules : List (ℕ × (ℕ → ℕ → Form → Bool))
 rules = (801, has_other_form) ∷ (802, has_earlier_tick) ∷ (803, has_no_place) ∷ (804, has_wide_value) ∷ (805, is_too_many) ∷ []
 

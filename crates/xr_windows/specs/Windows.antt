@@ -56,7 +56,8 @@ windows_of n = (n + 7) / 8
 abbrev pub ticks_in : ℕ → ℕ → ℕ
 ticks_in n k = window_start n (k + 1) - window_start n k
 
--- what core i sends to core j in window k of the run of n ticks
+-- What core i sends to core j in window k of the run of n ticks. The batch to the own core is empty, so that a part has four lists and
+-- no case for itself.
 abbrev pub batch : Image → Stim → ℕ → ℕ → ℕ → ℕ → List Item
 batch L s n i j k = sent_for j (sent_between L s i (window_start n k) (ticks_in n k))
 

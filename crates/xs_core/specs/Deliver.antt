@@ -21,7 +21,7 @@ pub record HasRoomAt (home : Home) (k near : Kind) (ends : List ChanEnd) (e : �
   pub there : e < length ends
   pub room : level k (slice_get ends e) + level_near home near ends (peer_of home.pairs home.number e) < 8
 
--- room for what comes from another core
+-- Room for what comes from another core. An end whose peer is on the same core has no room for anything from outside.
 abbrev pub HasRoomFrom : Home → List ChanEnd → Moved → Type 0
 HasRoomFrom home ends (Tok e k) = HasRoomAt home Tokens Credits ends e
 HasRoomFrom home ends (Credit e) = HasRoomAt home Credits Tokens ends e

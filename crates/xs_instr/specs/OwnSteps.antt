@@ -30,8 +30,9 @@ pub record Kept (relied : ℕ → Bool) (t : ℕ) (a b : CoreState) : Type 0 whe
   pub thread : slice_get b.threads t ≡ slice_get a.threads t
   pub words : (w : ℕ) → relied w ≡ true → slice_get b.words w ≡ slice_get a.words w
 
--- the guarantee: a step of thread t that changes nothing but its pc, its registers and words, leaves these words as they are, and makes
--- no record
+-- The guarantee: a step of thread t that changes nothing but its pc, its registers and words, leaves these words as they are, and makes
+-- no record. It says which words it leaves, so that one definition serves expressions, which change temporary words alone, and code
+-- that changes a variable's words while nobody looks at them.
 pub record OwnStep (home : Home) (leaves : ℕ → Type 0) (t : ℕ) (a b : CoreState) : Type 0 where
   pub thread : Thread
   pub here : slice_get a.threads t ≡ Some thread

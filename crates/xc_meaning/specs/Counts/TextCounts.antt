@@ -19,7 +19,8 @@ zeroed_kind tree.timer = 0
 abbrev pub zeroed_name : tree.Declaration → ℕ
 zeroed_name d = zeroed_kind d.kind
 
--- the words that a statement sets to 0: those that it declares
+-- The words that a statement sets to 0: those that it declares. A call counts none for its result, which makes the bound on
+-- instructions the stricter one.
 abbrev pub zeroed : tree.Action → ℕ
 zeroed (tree.declare ds) = sum_by zeroed_name ds
 zeroed other = 0

@@ -28,7 +28,9 @@ abbrev pub from_mark_by : Bool → (here behind : List Item) → List Item
 from_mark_by true here behind = here
 from_mark_by false here behind = behind
 
--- what is left of some items when all up to the mark of a block are dropped
+-- What is left of some items when all up to the mark of a block are dropped. `return`, `break` and `continue` drop all items up to the
+-- mark, which is then dropped by a step of its own. So behind a `return` the text has a step left wherever the kernel has its `Exit`
+-- left, and the two are quiet together.
 abbrev pub items_from_mark : (block : ℕ) → List Item → List Item
 items_from_mark n [] = []
 items_from_mark n (mark m ∷ rest) = from_mark_by (nat_eq n m) (mark m ∷ rest) (items_from_mark n rest)

@@ -12,6 +12,7 @@ use Rattle.xc_meaning.specs.States.Items.{Item}
 use Rattle.xc_meaning.specs.States.Branches.{Branch, erred}
 use Rattle.xc_meaning.specs.States.Worlds.{World, with_record}
 
+-- What the step of a branch depends on.
 pub record Setting : Type 0 where
   pub program : kernel.Kernel
   pub stimulus : Stim

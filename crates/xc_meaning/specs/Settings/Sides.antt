@@ -17,7 +17,8 @@ side_by true true behind = Some second
 side_by true false true = Some first
 side_by true false false = None
 
--- A branch stands in the side that its maker is or stands in; else it is the side that its `par` makes it.
+-- A branch stands in the side that its maker is or stands in; else it is the side that its `par` makes it. It keeps that from its
+-- birth. A channel that no `par` has in two branches has no sides, and nothing passes on it.
 abbrev pub side_in : ℕ → (before : List kernel.Statements) (here : kernel.Statements) (behind : List kernel.Statements) → Option Side → Option Side
 side_in c before here behind (Some side) = Some side
 side_in c before here behind None = side_by (by_statements (channel c) here) (one_uses c before) (one_uses c behind)

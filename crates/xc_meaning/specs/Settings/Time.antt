@@ -17,7 +17,8 @@ use Rattle.xc_meaning.specs.Settings.Setting.{Setting, errs, kind_of}
 abbrev pub ticks : World → (core clock : ℕ) → Option World
 ticks x core clock = only_if (nat_lt clock last_clock) (record x { clocks = slice_set x.clocks core (clock + 1) })
 
--- the clock of the branch's core, and the counter that its ports have
+-- The clock of the branch's core, and the counter that its ports have. A port's and a timer's core is that of the branch that uses
+-- them. In accepted programs it is the port's own.
 abbrev pub clock_of : Setting → ℕ
 clock_of s = slice_index s.world.clocks s.branch.core
 
@@ -61,7 +62,8 @@ abbrev pub with_timing : Setting → Timing → (When → Option World) → Opti
 with_timing s (passes when) go = go when
 with_timing s (fails kind pos) go = errs s (kind_of kind) pos
 
--- Whether a port's transfer may pass at this moment. Of a time and of a word for the pins the low bits count.
+-- Whether a port's transfer may pass at this moment. Of a time and of a word for the pins the low bits count. A test that doesn't
+-- belong to the resource, or a time of a timer's, holds nothing up.
 abbrev pub port_may_pass : Setting → (port : ℕ) → When → Bool
 port_may_pass s p now = true
 port_may_pass s p (at_time time) = nat_eq (counter_of s) (counter time)

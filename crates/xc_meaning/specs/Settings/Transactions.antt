@@ -7,7 +7,8 @@ use Rattle.xc_meaning.specs.States.Worlds.{World, only_if, put, without_parcel}
 use Rattle.xc_meaning.specs.Settings.Setting.{Setting, becomes, mismatches}
 use Rattle.xc_meaning.specs.Settings.Channels.{on_side, parcel_at, has_room}
 
--- the branch stands in a transaction, with these items left
+-- The branch stands in a transaction, with these items left. Inside a transaction is said of a branch and a channel, and a branch that
+-- is made there stands in it too. It stands there no more from the step on that puts or takes the closing.
 abbrev pub enters : Setting → (channel : ℕ) → List Item → World
 enters s c items = becomes s (record s.branch { items = items; inside = c ∷ s.branch.inside })
 

@@ -21,7 +21,8 @@ abbrev pub drives : Setting → kernel.Output → (port : ℕ) → When → ℕ 
 drives s o p when v =
     only_if (port_may_pass s p when) (with_record (goes_to s (stamping o.resource o.stamp (counter_of s) s.rest)) (output_record s p v))
 
--- a port's output; its time comes before its value
+-- A port's output; its time comes before its value. A transfer evaluates its time, condition and value at its own step. So a timed
+-- output whose value is an error errs at once, and not only when its time has come.
 abbrev pub outputs_to_port : Setting → kernel.Output → (port : ℕ) → Option World
 outputs_to_port s o p = with_timing s (timing s.world.store o.time None) (λ when. with_word_of s o.value (drives s o p when))
 
@@ -45,7 +46,7 @@ abbrev pub inputs_from_timer : Setting → kernel.Input → Option World
 inputs_from_timer s i =
     with_timing s (timing s.world.store i.time i.condition) (λ when. only_if (timer_may_pass s when) (reads_clock s i (clock_of s)))
 
--- an output by its resource; a timer has none
+-- An output by its resource; a timer has none. What the rules refuse is never possible.
 abbrev pub outputs_to : Setting → kernel.Output → KRes → Option World
 outputs_to s o (Port p) = outputs_to_port s o p
 outputs_to s o (Timer t) = None

@@ -29,6 +29,7 @@ pub record Branch : Type 0 where
   -- a root has none
   pub birth : Option Birth
 
+-- A branch that ends or errs has no items left.
 abbrev pub has_ended : Mode → Bool
 has_ended ended = true
 has_ended mode = false

@@ -5,7 +5,8 @@ use Rattle.xc_kernel.specs.Eval.{Store, words_of}
 use Rattle.xc_meaning.specs.States.Channels.{Parcel, Side, Inboxes, no_parcels, parcels_at, with_parcels, without_oldest}
 use Rattle.xc_meaning.specs.States.Branches.{Branch}
 
--- Variables and channels are meant by their numbers in the kernel, branches by their order of birth.
+-- Variables and channels are meant by their numbers in the kernel, branches by their order of birth. A branch's name is its number in
+-- that order, as a path can come again in a later iteration of a loop.
 pub record World : Type 0 where
   -- of each core
   pub clocks : List ℕ
@@ -15,7 +16,8 @@ pub record World : Type 0 where
   pub inboxes : List Inboxes
   pub trace : List Record
 
--- an action: a step of the program, by whose it is and what it chooses
+-- An action: a step of the program, by whose it is and what it chooses. The events of the machine are no actions; those over a link
+-- are called moves.
 pub data Action : Type 0 where
   -- a core's clock goes up
   clock : (core : ℕ) → Action

@@ -75,7 +75,9 @@ abbrev pub EachInFunction : (tree.Call → Type 0) → Option Function → Type 
 EachInFunction Holds None = Unit {0}
 EachInFunction Holds (Some f) = EachCall Holds f.body
 
--- a call goes at most so deep: it calls a function whose calls go less deep, or none that is there
+-- A call goes at most so deep: it calls a function whose calls go less deep, or none that is there. A call of a function that isn't
+-- there, and a value that stands alone, are steps that change nothing. No accepted program has them, and so the copy rule and the
+-- meaning agree on all trees.
 abbrev pub GoesWithin : List Function → ℕ → tree.Call → Type 0
 GoesWithin fs zero call = IsNone (function_named fs call.called.text)
 GoesWithin fs (suc n) call = EachInFunction (GoesWithin fs n) (function_named fs call.called.text)

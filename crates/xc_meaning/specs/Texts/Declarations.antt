@@ -16,7 +16,8 @@ abbrev pub begins_word : Setting → Context → Scope → Path → Option tree.
 begins_word s c scope path None = zeroed s (variable_number c.numbering path)
 begins_word s c scope path (Some r) = stores_right s c scope (word_spot (variable_number c.numbering path)) (word_at c path) r
 
--- by what is declared; a word's initialiser knows the word itself, and a channel or timer has no words
+-- By what is declared; a word's initialiser knows the word itself, and a channel or timer has no words. A declaration is an item for
+-- each name. That of a channel or a timer is a step that changes nothing.
 abbrev pub declares_kind : Setting → Context → Scope → tree.Declaration → tree.Kind → Option World
 declares_kind s c scope d (tree.word u r) =
     begins_word s c (declares_word c d.name.text d.name.pos u scope).scope (path_at c.path d.name.pos) r

@@ -19,11 +19,12 @@ use Rattle.xc_meaning.specs.Texts.Items.{maybe_items, body_item}
 abbrev pub turn_context : Loop → Context
 turn_context l = in_loop l.context l.pos
 
--- a turn of a loop
+-- A turn of a loop. What has a mark begins by a step of its own: the body of a function, of a loop and of a case is one item, whose
+-- step lays out its statements and its mark, as the kernel's block does. A body that is a block takes this one step and no other.
 abbrev pub turn_item : Loop → Item
 turn_item l = body_item (path_of_turn (path_at l.context.path l.pos)) l.body (turn_context l) l.scope
 
--- the mark of a loop's block
+-- The mark of a loop's block. It stands behind the loop also where the first test doesn't hold.
 abbrev pub loop_mark : Loop → Item
 loop_mark l = mark (block_in l.context (path_at l.context.path l.pos))
 
@@ -53,7 +54,8 @@ tests_first s l = tests_loop s l (loop_mark l ∷ s.rest)
 abbrev pub begins_do : Setting → Loop → Option World
 begins_do s l = Some (goes_to s (turn_item l ∷ says (again_do l) ∷ loop_mark l ∷ s.rest))
 
--- a `for` begins with its initialiser, and then comes its test
+-- A `for` begins with its initialiser, and then comes its test. That first test is an item of its own, whose step is that of a
+-- `while`.
 abbrev pub begins_for : Setting → tree.Maybe → Scope → Loop → Option World
 begins_for s first scope l = Some (goes_to s (maybe_items first l.context scope (says (first_test l) ∷ s.rest)))
 

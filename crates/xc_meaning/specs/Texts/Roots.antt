@@ -61,7 +61,7 @@ block_roots main tree.no_more c scope = []
 block_roots main (tree.more (tree.statement action pos close own) ss) c scope =
     action_roots main action c scope ++ block_roots main ss c (behind_action main action c scope)
 
--- main itself begins as a call of it does: its result becomes 0, and then its body is done
+-- Main itself begins as a call of it does: its result becomes 0, and then its body is done. It has no parameters.
 abbrev pub main_begun : Function → Context → Begun
 main_begun f c = record {
   items =

@@ -113,6 +113,8 @@ module _ (unsigned : ℕ → tree.Expression → Bool) (num : Numbering) (scope 
 
 -- Where a statement stands the types are those of what names stand for.
 
+-- Which expressions are `unsigned` is an argument of the definition: the steps of a text give it these types, and the law
+-- `expressions_keep_their_word` those that the rules of types give.
 abbrev pub types_in : Scope → ℕ → tree.Expression → Bool
 types_in scope k e = is_unsigned scope e
 

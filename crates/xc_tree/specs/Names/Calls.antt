@@ -27,7 +27,8 @@ pub record IsInItem (program : List plain.Item) (u f : ℕ) : Type 0 where
   pub begun : first_of program f ≤ u
   pub before_next : u < first_of program (f + 1)
 
--- the name at place u is called in item f, and means the function that is item g
+-- The name at place u is called in item f, and means the function that is item g. A call is one of what the name means at its place:
+-- where a variable hides a function, the call stands on no cycle.
 pub record CallsAt (program : List plain.Item) (u f g : ℕ) (n : Id) : Type 0 where
   pub called : slice_get (of_program program) u ≡ Some (Calls n)
   pub inside : IsInItem program u f

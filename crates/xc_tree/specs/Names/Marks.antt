@@ -18,7 +18,7 @@ declares n w = Declares (record { name = n; what = w })
 abbrev pub uses : List ℕ → Pos → Mark
 uses t p = Uses (record { text = t; pos = p })
 
--- a scope with what stands in it
+-- A scope with what stands in it. A transaction is a scope, as its block is one.
 abbrev pub in_scope : List Mark → List Mark
 in_scope ms = Opens ∷ (ms ++ Closes ∷ [])
 

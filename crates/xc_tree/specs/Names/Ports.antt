@@ -46,7 +46,8 @@ abbrev mutual
   form_number (plain.choice c a b) = None
   form_number (plain.cast u e) = None
 
--- the core of a port, where its place has that form: 0 where it isn't placed
+-- The core of a port, where its place has that form: 0 where it isn't placed. Rule 303 speaks of cores as words, also of those above
+-- 3. A place that isn't a number has no core, and doesn't count.
 abbrev pub core_at : Option plain.Place → Option ℕ
 core_at None = Some 0
 core_at (Some p) = place_number p.value

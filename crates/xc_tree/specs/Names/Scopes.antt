@@ -15,7 +15,8 @@ to_end inner (Declares d ∷ ms) = suc (to_end inner ms)
 to_end inner (Uses n ∷ ms) = suc (to_end inner ms)
 to_end inner (Calls n ∷ ms) = suc (to_end inner ms)
 
--- the place at which the innermost scope around place i ends; two places are in one scope where theirs end at one place
+-- The place at which the innermost scope around place i ends; two places are in one scope where theirs end at one place. Of several
+-- scopes around a place the innermost is the one that ends first.
 abbrev pub end_of : List Mark → ℕ → ℕ
 end_of ms i = i + to_end 0 (drop i ms)
 
@@ -35,8 +36,8 @@ pub record IsKnown (ms : List Mark) (d u : ℕ) : Type 0 where
 abbrev pub IsWithin : List Mark → ℕ → ℕ → Type 0
 IsWithin ms d e = (end_of ms d < end_of ms e) ⊎ ((end_of ms d ≡ end_of ms e) × (d ≤ e))
 
--- a name at place u means the declaration at place d: of all with its spelling that are known there, that of the innermost
--- scope, and of one scope the first
+-- A name at place u means the declaration at place d: of all with its spelling that are known there, that of the innermost
+-- scope, and of one scope the first. So it is of functions too.
 pub record Means (ms : List Mark) (u : ℕ) (t : List ℕ) (d : ℕ) : Type 0 where
   pub declared : DeclaresAt ms d t
   pub known : IsKnown ms d u

@@ -66,7 +66,7 @@ is_channel_among [] = false
 is_channel_among (a ∷ rest) = is_channel_given a.given || is_channel_among rest
 
 -- Rule 506: a transaction holds a `par`, a `select`, a transaction, or a call with a channel argument. At its word or called
--- name.
+-- name. A channel argument is a channel that is given, whatever the parameter is.
 abbrev pub rule_506 : Site → List Pos
 rule_506 (site.par around p) = broken_where (in_transaction around.holders) p
 rule_506 (site.select around cs p) = broken_where (in_transaction around.holders) p
@@ -80,7 +80,7 @@ defaults plain.no_case = []
 defaults (plain.more_cases (plain.case p g (Some i) ss) cs) = defaults cs
 defaults (plain.more_cases (plain.case p g None ss) cs) = p ∷ defaults cs
 
--- Rule 507: a select has a second `default`. At that.
+-- Rule 507: a select has a second `default`. At that. All further ones break it, not only the second.
 abbrev pub rule_507 : Site → List Pos
 rule_507 (site.select around cs p) = drop 1 (defaults cs)
 rule_507 other = []

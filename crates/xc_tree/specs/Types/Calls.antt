@@ -67,8 +67,9 @@ abbrev pub fits_port : TreeDir → Given → Bool
 fits_port d (a_name x) = is_port_of d x.what
 fits_port d other = false
 
--- whether what is given fits a parameter; for one by value each word does, and an argument without a parameter has none to
--- fit
+-- Whether what is given fits a parameter; for one by value each word does, and an argument without a parameter has none to
+-- fit. An argument of a call of something that isn't a function has no parameter either. What is called breaks 405 or 404 before it in
+-- the text, so this decides no answer.
 abbrev pub fits : Option ParamKind → Given → Bool
 fits None g = true
 fits (Some (param.Value u)) g = true

@@ -5,7 +5,8 @@ use Rattle.xc_tree.specs.declared.tree.TreeDir.TheVariants.{In, Out, Both}
 use Rattle.xc_tree.specs.declared.names.What.{What}
 use Rattle.xc_tree.specs.declared.names.What.TheVariants.{Word, Array, Ref, ArrayParam, Chan, End, Timer, Port, PortParam, Index}
 
--- a word: one that is declared, a parameter for one, or the index of a replicated `par`
+-- A word: one that is declared, a parameter for one, or the index of a replicated `par`. A name that has no entry in the lists is
+-- declared as nothing, and every test here refuses it. So the definitions speak of every tree with its lists.
 abbrev pub is_word : Option What → Bool
 is_word (Some (Word u)) = true
 is_word (Some (Ref u)) = true

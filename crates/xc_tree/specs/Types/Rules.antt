@@ -18,7 +18,8 @@ broken_where false p = []
 abbrev pub broken_unless : Bool → Pos → List Pos
 broken_unless b p = broken_where (not b) p
 
--- Rule 401: a word is needed, and the name is none. At the name.
+-- Rule 401: a word is needed, and the name is none. At the name. A name alone that is changed breaks 403 or 412 and not 401. One
+-- before a `[` breaks 402 alone, also where it is changed.
 abbrev pub rule_401 : Site → List Pos
 rule_401 (site.word x) = broken_unless (is_word x.what) x.id.pos
 rule_401 other = []
@@ -53,7 +54,8 @@ abbrev pub misfits : List Argument → List Pos
 misfits [] = []
 misfits (a ∷ rest) = broken_unless (fits a.parameter a.given) a.first ++ misfits rest
 
--- Rule 406: an argument doesn't fit its parameter. At its first token.
+-- Rule 406: an argument doesn't fit its parameter. At its first token. What is given for an `&` parameter is an lval, so 403 and 412
+-- speak of it too, at the name. An index of a replicated `par` is an `int`: it breaks 412 for `int &`, and 406 too for `unsigned &`.
 abbrev pub rule_406 : Site → List Pos
 rule_406 (site.call around x meant given r) = misfits given
 rule_406 other = []
@@ -133,7 +135,8 @@ abbrev pub again : List ℕ → List Argument → List Pos
 again before [] = []
 again before (a ∷ rest) = broken_where (is_one_of before (referred a)) a.first ++ again (with_variable (referred a) before) rest
 
--- Rule 416: one variable is the argument of two `&` or array parameters of one call. At the first token of the second.
+-- Rule 416: one variable is the argument of two `&` or array parameters of one call. At the first token of the second. An element
+-- stands for its array, and the rule speaks of variables alone. All further arguments break it, not only the second.
 abbrev pub rule_416 : Site → List Pos
 rule_416 (site.call around x meant given r) = again [] given
 rule_416 other = []

@@ -27,7 +27,8 @@ abbrev pub gives_unsigned : (symbol : ℕ) → (first second : Bool) → Bool
 gives_unsigned o a b = if is_among tests o then false else (if is_among shifts o then a else a || b)
 
 abbrev mutual
-  -- whether an expression, before which the text has k names, is a word that is `unsigned`
+  -- Whether an expression, before which the text has k names, is a word that is `unsigned`. `? :` has the type of its last two
+  -- operands together: `unsigned` where one of them is.
   pub is_unsigned : NamedProgram → ℕ → plain.Expression → Bool
   is_unsigned n k (plain.expression f p) = form_is_unsigned n k f
 
