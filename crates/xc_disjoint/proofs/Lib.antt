@@ -1,10 +1,8 @@
 pub mod Steps
 mod ThreadSteps
-mod Entries
-mod SideSteps
 mod UseSteps
 mod Limits
-mod Settled
+mod RootSteps
 mod RootEnds
 mod Firsts
 mod Whole

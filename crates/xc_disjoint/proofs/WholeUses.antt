@@ -82,3 +82,8 @@ module _ (c : ℕ) where
   -- of the branches of a whole `par`
   pub of_whole : (bs : kernel.Branches) → Fits c (uses_in c bs) (bs ∷ pars.of_branches bs) (own.of_statement (kernel.par bs) c)
   of_whole bs = of_statement (kernel.par bs)
+
+  -- how the branches of a whole `par` share it
+  pub of_shares : (bs : kernel.Branches) → Shared c bs (own.with_branches no_shares bs c)
+  unfolding no_shares
+  of_shares bs = of_branches kernel.no_branch no_shares bs (no_branch_yet c)

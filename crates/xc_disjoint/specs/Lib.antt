@@ -5,8 +5,6 @@ pub mod Needs
 pub mod Disjoint
 pub mod Rules
 pub mod Checked
-pub mod Sides
-pub mod Tables
 pub mod Leasts
 pub mod Places
 pub mod Sums
@@ -17,3 +15,4 @@ pub mod SideRules
 pub mod Uses
 pub mod UseTables
 pub mod Judged
+pub mod RootUses

@@ -19,7 +19,7 @@ const ONE_USE: Use = Use {
 
 /// Goes on in a table behind some statements.
 #[cycle(channels)]
-fn statements(alloc: Global, table: &mut UseTable, ss: &[Kst]) -> Result<(), Memory>
+pub fn statements(alloc: Global, table: &mut UseTable, ss: &[Kst]) -> Result<(), Memory>
     ensures { OnOk result (uses_in table.new ≡ all_after (uses_in table.old)
         (uses.of_statements (plain.statements (map statement_of ss.now)))) }
 {
@@ -58,7 +58,7 @@ fn statement(alloc: Global, table: &mut UseTable, s: &Kst) -> Result<(), Memory>
         }
         Kst::Par(all) => par(alloc, table, all.as_slice()),
         Kst::Tran { chan, body, .. } => {
-            table.follow(*chan, ONE_USE)?;
+            table.follow(*chan as usize, ONE_USE)?;
             statements(alloc, table, body.as_slice())
         }
     }
@@ -125,7 +125,7 @@ fn branches(alloc: Global, par: &mut ParTable, all: &[KBranch]) -> Result<(), Me
 
 /// Goes on to one more branch, which stands at this place.
 #[cycle(channels)]
-pub fn branch(alloc: Global, par: &mut ParTable, body: &[Kst], pos: Pos) -> Result<(), Memory>
+fn branch(alloc: Global, par: &mut ParTable, body: &[Kst], pos: Pos) -> Result<(), Memory>
     ensures { OnOk result (shares_in par.new ≡ all_with pos (shares_in par.old)
         (uses.of_statements (plain.statements (map statement_of body.now)))) }
 {
@@ -159,6 +159,6 @@ fn used(table: &mut UseTable, resource: KRes) -> Result<(), Memory>
     match resource {
         KRes::Port(_) => Ok(()),
         KRes::Timer(_) => Ok(()),
-        KRes::Chan(channel) => table.follow(channel, ONE_USE),
+        KRes::Chan(channel) => table.follow(channel as usize, ONE_USE),
     }
 }

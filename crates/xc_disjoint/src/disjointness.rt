@@ -1,12 +1,17 @@
-ghost use Rattle.std.specs.Prelude.{◌≡◌, Some, IfErr, IfOk, OnOk};
+ghost use Rattle.std.specs.Prelude.{◌≡◌, map, Some, IfErr, IfOk, OnOk};
 ghost use Rattle.xw_words.specs.declared.pos.Broken.{Broken as Wrong};
 ghost use Rattle.xc_kernel.specs.Sound.{IsOfProgram};
 ghost use Rattle.xc_disjoint.specs.Disjoint.{NotApart};
+ghost use Rattle.xc_disjoint.specs.RootUses.{seen_in, seen_of};
 ghost use Rattle.xc_disjoint.specs.Rules.{Breaks, NeedsMore};
+ghost use Rattle.xc_disjoint.specs.UseTables.{shares_in};
+ghost use Rattle.xc_disjoint.specs.Uses.{no_shares, with_branches};
+ghost use Rattle.xc_kernel.specs.Branches.{branches_of};
 ghost use Rattle.xc_kernel.specs.Kernels.{kernel_of};
 ghost use Rattle.xc_tree.specs.Least.{IsFirst, IsLeastOf};
 ghost use Rattle.xc_tree.specs.Refusals.{IfBroken};
 
+use crate::channels::{Channels, channels_of};
 use crate::checked::Checked;
 use crate::clashes::first_clash;
 use crate::judge::first_without_sides;
@@ -62,39 +67,50 @@ fn unbroken(alloc: Global, kernel: &Kernel) -> Result<(), DisErr>
 fn first_broken(alloc: Global, kernel: &Kernel) -> Result<Option<Broken>, Memory>
     ensures { IfOk result (λ best. IsLeastOf (Breaks (kernel_of kernel.now)) best) }
 {
-    let apart = first_not_apart(alloc, kernel)?;
-    let needs = broken_need(alloc, kernel)?;
+    let mut channels = channels_of(alloc, kernel.roots.as_slice())?;
+    let needs = broken_need(&channels, kernel);
+    let apart = first_not_apart(alloc, &mut channels, kernel)?;
     let roots = first_of_roots(kernel.roots.as_slice(), earlier(apart, needs));
     let places = first_of_ports(kernel.ports.as_slice(), roots);
     Ok(first_elsewhere(kernel.ports.as_slice(), kernel.roots.as_slice(), places))
 }
 
-/// The first of the rules by which branches don't keep apart.
-fn first_not_apart(alloc: Global, kernel: &Kernel) -> Result<Option<Broken>, Memory>
+/// The first of the rules by which branches don't keep apart, by how the roots use channels.
+fn first_not_apart(
+    alloc: Global,
+    channels: &mut Channels,
+    kernel: &Kernel,
+) -> Result<Option<Broken>, Memory>
+    requires { shares_in channels.now.among_roots
+        ≡ with_branches no_shares (branches_of (kernel_of kernel.now).roots) }
     ensures { IfOk result (λ best. IsLeastOf (NotApart (kernel_of kernel.now)) best) }
 {
     let clash = first_clash(alloc, kernel.roots.as_slice())?;
-    let sides = first_without_sides(alloc, kernel)?;
+    let sides = first_without_sides(channels, kernel)?;
     Ok(earlier(clash, sides))
 }
 
 /// The least of the rules by which a core needs more than it has, which all stand at main.
-fn broken_need(alloc: Global, kernel: &Kernel) -> Result<Option<Broken>, Memory>
-    ensures { IfOk result (λ best. IsLeastOf (NeedsMore (kernel_of kernel.now)) best) }
+fn broken_need(channels: &Channels, kernel: &Kernel) -> Option<Broken>
+    requires in_roots { map seen_in channels.now.in_roots
+        ≡ map seen_of (kernel_of kernel.now).roots }
+    requires among_roots { shares_in channels.now.among_roots
+        ≡ with_branches no_shares (branches_of (kernel_of kernel.now).roots) }
+    ensures { IsLeastOf (NeedsMore (kernel_of kernel.now)) result }
 {
     if too_many_threads(kernel) {
-        return Ok(at_main(kernel, 701));
+        return at_main(kernel, 701);
     }
-    if too_many_ends(alloc, kernel)? {
-        return Ok(at_main(kernel, 702));
+    if too_many_ends(channels, kernel) {
+        return at_main(kernel, 702);
     }
     if too_many_timers(kernel) {
-        return Ok(at_main(kernel, 703));
+        return at_main(kernel, 703);
     }
     if too_many_words(kernel) {
-        return Ok(at_main(kernel, 704));
+        return at_main(kernel, 704);
     }
-    Ok(None)
+    None
 }
 
 fn at_main(kernel: &Kernel, rule: u16) -> Option<Broken>

@@ -7,6 +7,7 @@
 #![tactic(auto)]
 
 mod channel_uses;
+mod channels;
 mod checked;
 mod clashes;
 mod disjointness;
@@ -17,8 +18,6 @@ mod judge;
 mod needs;
 mod places;
 mod ports;
-mod side;
-mod tables;
 mod threads;
 mod use_tables;
 mod uses;

@@ -1,14 +1,17 @@
-ghost use Rattle.std.specs.Prelude.{◌≡◌, map, sum_by, Decides, IfOk};
+ghost use Rattle.std.specs.Prelude.{◌≡◌, map, sum_by, Decides};
 ghost use Rattle.xc_disjoint.specs.Needs.{ends_on, threads_of_root, threads_on, timers_of, timers_on, words_of_instance as instance_needs, words_of_variable as variable_needs, words_on};
+ghost use Rattle.xc_disjoint.specs.RootUses.{seen_in, seen_of};
 ghost use Rattle.xc_disjoint.specs.Rules.{IsAbove, most_ends, most_threads, most_timers, most_words};
 ghost use Rattle.xc_disjoint.specs.Sums.{capped, some_above};
+ghost use Rattle.xc_disjoint.specs.UseTables.{shares_in};
+ghost use Rattle.xc_disjoint.specs.Uses.{no_shares, with_branches};
+ghost use Rattle.xc_kernel.specs.Branches.{branches_of};
 ghost use Rattle.xc_kernel.specs.Kernels.{kernel_of, root_of};
 
-use crate::ends::channels_of;
+use crate::channels::Channels;
+use crate::ends::ends_on as core_ends;
 use crate::threads::of_sequence;
-use std::alloc::Global;
 use xc_kernel::{Inst, Kernel, Root, Timer, Var};
-use xw_words::Memory;
 
 /// What a core has.
 const MOST_THREADS: u64 = 8;
@@ -39,20 +42,22 @@ pub fn too_many_threads(kernel: &Kernel) -> bool
     is_above(MOST_THREADS, &needed)
 }
 
-/// Whether some core needs too many channel ends. The stack that it needs grows with the depth of the kernel.
-pub fn too_many_ends(alloc: Global, kernel: &Kernel) -> Result<bool, Memory>
-    ensures { IfOk result
-        (λ above. Decides above (IsAbove most_ends (ends_on (kernel_of kernel.now)))) }
+/// Whether some core needs too many channel ends, by how the roots use channels.
+pub fn too_many_ends(channels: &Channels, kernel: &Kernel) -> bool
+    requires in_roots { map seen_in channels.now.in_roots
+        ≡ map seen_of (kernel_of kernel.now).roots }
+    requires among_roots { shares_in channels.now.among_roots
+        ≡ with_branches no_shares (branches_of (kernel_of kernel.now).roots) }
+    ensures { Decides result (IsAbove most_ends (ends_on (kernel_of kernel.now))) }
 {
-    let channels = channels_of(alloc, kernel.roots.as_slice())?;
     let count = kernel.chans.len();
     let needed = [
-        channels.ends_on(0, count),
-        channels.ends_on(1, count),
-        channels.ends_on(2, count),
-        channels.ends_on(3, count),
+        core_ends(channels, 0, count),
+        core_ends(channels, 1, count),
+        core_ends(channels, 2, count),
+        core_ends(channels, 3, count),
     ];
-    Ok(is_above(MOST_ENDS, &needed))
+    is_above(MOST_ENDS, &needed)
 }
 
 /// Whether some core needs too many timers.

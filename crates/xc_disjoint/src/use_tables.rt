@@ -13,7 +13,7 @@ use xw_words::{Memory, Pos};
 /// How some code uses channels. A channel that isn't there isn't used.
 #[derive(Drop)]
 pub struct UseTable {
-    pub entries: IndexMap<u32, Use>,
+    pub entries: IndexMap<usize, Use>,
 }
 
 impl UseTable {
@@ -26,8 +26,18 @@ impl UseTable {
         }
     }
 
+    /// How the code uses a channel.
+    pub fn channel_use(&self, channel: usize) -> Option<Use>
+        ensures { result ≡ uses_in self.now channel }
+    {
+        match self.entries.get(&channel) {
+            None => None,
+            Some(u) => Some(*u),
+        }
+    }
+
     /// Goes on behind code that uses one channel like this.
-    pub fn follow(&mut self, channel: u32, next: Use) -> Result<(), Memory>
+    pub fn follow(&mut self, channel: usize, next: Use) -> Result<(), Memory>
         ensures { OnOk result
             (uses_in self.new ≡ all_after (uses_in self.old) (only channel next)) }
     {
@@ -62,7 +72,7 @@ impl UseTable {
 #[derive(Drop)]
 pub struct ParTable {
     pub largest: UseTable,
-    pub shared: IndexMap<u32, Share>,
+    pub shared: IndexMap<usize, Share>,
 }
 
 impl ParTable {
@@ -76,6 +86,21 @@ impl ParTable {
         }
     }
 
+    /// How the branches use a channel.
+    pub fn share(&self, channel: usize) -> Option<Share>
+        ensures { result ≡ shares_in self.now channel }
+    {
+        share_of(&self.shared, &self.largest, channel)
+    }
+
+    /// Goes on to one more branch, through the whole of its table.
+    pub fn add_all(&mut self, branch: &UseTable, pos: Pos) -> Result<(), Memory>
+        ensures { OnOk result
+            (shares_in self.new ≡ all_with pos (shares_in self.old) (uses_in branch.now)) }
+    {
+        add_each(&mut self.shared, &self.largest, branch, pos)
+    }
+
     /// Goes on to one more branch. It goes through this branch's table only where that isn't far larger than the others; the
     /// branch's table is of no use then.
     pub fn add(&mut self, alloc: Global, branch: &mut UseTable, pos: Pos) -> Result<(), Memory>
@@ -83,7 +108,7 @@ impl ParTable {
             (shares_in self.new ≡ all_with pos (shares_in self.old) (uses_in branch.old)) }
     {
         if branch.entries.len() / 2 <= self.largest.entries.len() {
-            add_each(&mut self.shared, &self.largest, branch, pos)
+            self.add_all(branch, pos)
         } else {
             self.add_larger(alloc, branch, pos)
         }
@@ -109,7 +134,7 @@ impl ParTable {
 }
 
 /// Takes the uses in one branch of a `par` for those in the whole.
-fn settle(largest: &mut UseTable, shared: &IndexMap<u32, Share>) -> Result<(), Memory>
+fn settle(largest: &mut UseTable, shared: &IndexMap<usize, Share>) -> Result<(), Memory>
     ensures { OnOk result (uses_in largest.new
         ≡ uses_of (with_ones (found shared.now.entries) (uses_in largest.old))) }
 {
@@ -123,10 +148,10 @@ fn settle(largest: &mut UseTable, shared: &IndexMap<u32, Share>) -> Result<(), M
 /// What is shared, with one more branch as far as it uses the same channels.
 fn with_larger(
     alloc: Global,
-    shared: &IndexMap<u32, Share>,
+    shared: &IndexMap<usize, Share>,
     branch: &UseTable,
     pos: Pos,
-) -> Result<IndexMap<u32, Share>, Memory>
+) -> Result<IndexMap<usize, Share>, Memory>
     ensures { IfOk result
         (λ all. found all.entries ≡ updated pos (found shared.now.entries) (uses_in branch.now)) }
 {
@@ -150,7 +175,7 @@ fn with_any(share: Share, next: Option<&Use>, pos: Pos) -> Share
 
 /// What is shared, and with it the uses of one more branch.
 fn add_each(
-    shared: &mut IndexMap<u32, Share>,
+    shared: &mut IndexMap<usize, Share>,
     largest: &UseTable,
     branch: &UseTable,
     pos: Pos,
@@ -167,7 +192,7 @@ fn add_each(
 }
 
 /// How branches use a channel, by what is shared and the largest of their tables.
-fn share_of(shared: &IndexMap<u32, Share>, largest: &UseTable, channel: u32) -> Option<Share>
+fn share_of(shared: &IndexMap<usize, Share>, largest: &UseTable, channel: usize) -> Option<Share>
     ensures { result ≡ with_ones (found shared.now.entries) (uses_in largest.now) channel }
 {
     share_by(shared.get(&channel), largest.entries.get(&channel))
@@ -184,7 +209,7 @@ fn share_by(share: Option<&Share>, one: Option<&Use>) -> Option<Share>
 }
 
 /// What the largest table says stands among what is shared too.
-fn spell_out(shared: &mut IndexMap<u32, Share>, largest: &UseTable) -> Result<(), Memory>
+fn spell_out(shared: &mut IndexMap<usize, Share>, largest: &UseTable) -> Result<(), Memory>
     ensures { OnOk result
         (found shared.new.entries ≡ with_ones (found shared.old.entries) (uses_in largest.now)) }
 {
@@ -224,7 +249,7 @@ fn larger_first(first: &mut UseTable, second: &mut UseTable)
     }
 }
 
-fn put<V: Copy>(entries: &mut IndexMap<u32, V>, key: u32, value: V) -> Result<(), Memory>
+fn put<V: Copy>(entries: &mut IndexMap<usize, V>, key: usize, value: V) -> Result<(), Memory>
     ensures { OnOk result
         (found entries.new.entries ≡ with_entry (found entries.old.entries) key value) }
 {
@@ -235,7 +260,7 @@ fn put<V: Copy>(entries: &mut IndexMap<u32, V>, key: u32, value: V) -> Result<()
 }
 
 /// The entry at a place.
-pub fn entry_at<V: Copy>(entries: &IndexMap<u32, V>, at: usize) -> (u32, V)
+pub fn entry_at<V: Copy>(entries: &IndexMap<usize, V>, at: usize) -> (usize, V)
     requires { at < index_map_len entries.now }
     ensures { slice_get entries.now.entries at ≡ Some result }
 {
