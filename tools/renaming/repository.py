@@ -8,8 +8,12 @@ import shutil
 import subprocess
 from pathlib import Path
 
+from house.limits import all_excess
+from house.sources import sources
+
 from .places import Step, code_now, path_now, place_now, words_now
 from .tables import ORDER, STEPS
+from .words import Sweep, swept
 
 LEFT_ALONE = ("tools/renames", "tools/renaming/", "tools/tests/test_renames.py")  # what speaks of older names
 RESULTS = "bench/results/"  # what was measured of crates as they were: a crate that is part of another one keeps its name there
@@ -271,3 +275,34 @@ def apply(top: Path, step: Step, has_commit: bool) -> None:
         print(f"look at {line}")
     if lost := no_longer_public(before, after):
         print(f"no longer public: {', '.join(lost)}")
+
+
+def apply_words(top: Path, sweep: Sweep, has_commit: bool) -> None:
+    """Changes the words of a sweep in the repository, as a commit of its own if that is wanted. Nothing is written where a new word meets another
+    one: a row for the file that is told has to give that one another name."""
+    before, refused = texts_of(top), list[str]()
+    after = swept(before, sweep, refused)
+    if refused:
+        raise SystemExit("\n".join([f"{sweep.name}: nothing is written, for", *refused]))
+    if after == before:
+        print(f"{sweep.name}: done before")
+        return
+    write(top, before, after)
+    if shutil.which("rt"):
+        lay_out(top, before, after)
+    measure_anew(top)
+    subprocess.run(["git", "add", "--all"], cwd=top, check=True)
+    if has_commit:
+        subprocess.run(["git", "commit", "--quiet", "--message", sweep.subject, "--message", sweep.why], cwd=top, check=True)
+    print(f"{sweep.name}: {sum(before.get(path) != text for path, text in after.items())} files")
+
+
+def measure_anew(top: Path) -> None:
+    """Writes the amounts of what is known to be beyond the house's limits: a longer word makes the same clause longer. What wasn't beyond a limit
+    isn't added."""
+    known, found = top / "tools" / "house" / "known.txt", all_excess(sources(top))
+    head, *rows = known.read_text(encoding="utf-8").splitlines()
+    keys = [(limit, where) for limit, _, where in (row.split(" ", 2) for row in rows)]
+    kept = sorted((limit, where) for limit, where in keys if (limit, where) in found)
+    lines = [head, *(f"{limit} {found[limit, where]} {where}" for limit, where in kept)]
+    known.write_text("".join(f"{line}\n" for line in lines), encoding="utf-8")

@@ -5,7 +5,9 @@ import unittest
 from renaming.older import older_now
 from renaming.places import Step, antt_now, code_now, path_now, place_now, rust_now, words_now
 from renaming.repository import crates_now, edit_now, files_now, is_done, joined, known_now, list_now, lists_now, no_longer_public, said_twice
+from renaming.sweeps import SWEEPS
 from renaming.tables import ORDER, STEPS, name_now
+from renaming.words import Local, Page, Sweep, Word, local_now, swept, word_now
 
 MOVES = {
     "xc_old": "xc_new",
@@ -219,6 +221,89 @@ class Tables(unittest.TestCase):
             ("xw_words", "xw_words"),
         ):
             self.assertEqual(name_now(before), after)
+
+
+class Words(unittest.TestCase):
+    def changed(self, path: str, text: str, word: Word) -> tuple[str, list[str]]:
+        refused: list[str] = []
+        return word_now(f"crates/{path}", text, word, refused), refused
+
+    def test_where_it_is_defined(self):
+        word = Word("xa_one/specs/Did", "told", "map_did")
+        text = "-- the same, told of more: `told`\nabbrev pub told : A → A\ntold x = x.told\nnot_told = told-one\n"
+        after = "-- the same, told of more: `map_did`\nabbrev pub map_did : A → A\nmap_did x = x.told\nnot_told = told-one\n"
+        self.assertEqual(self.changed("xa_one/specs/Did.antt", text, word), (after, []))
+        self.assertEqual(self.changed("xa_one/specs/Did.antt", after, word), (after, []))
+
+    def test_where_it_is_imported(self):
+        word = Word("xa_one/specs/Did", "told", "map_did")
+        for before, after in (
+            ("use Rattle.xa_one.specs.Did.{Did, told}\nf = told c.told", "use Rattle.xa_one.specs.Did.{Did, map_did}\nf = map_did c.told"),
+            ("use Rattle.xa_one.specs.Did.{told as t}\nf = told t", "use Rattle.xa_one.specs.Did.{map_did as t}\nf = told t"),
+            ("use Rattle.xa_one.specs.Did as did\nf = did.told told", "use Rattle.xa_one.specs.Did as did\nf = did.map_did told"),
+            ("use Rattle.xa_two.specs.Did.{told}\nf = told", "use Rattle.xa_two.specs.Did.{told}\nf = told"),
+        ):
+            self.assertEqual(self.changed("xa_two/proofs/Steps.antt", before, word), (after, []))
+
+    def test_clauses_keep_their_labels(self):
+        text = "ghost use Rattle.xa_one.specs.Did.{told};\n    ensures told { told result.told }\n"
+        after = "ghost use Rattle.xa_one.specs.Did.{map_did};\n    ensures told { map_did result.told }\n"
+        self.assertEqual(self.changed("xa_two/src/a.rt", text, Word("xa_one/specs/Did", "told", "map_did")), (after, []))
+
+    def test_what_meets_another_word_or_a_field_is_refused(self):
+        word = Word("xa_one/specs/Did", "told", "map_did")
+        text = "use Rattle.xa_one.specs.Did.{told}\nmap_did = told\n"
+        self.assertEqual(self.changed("xa_two/proofs/A.antt", text, word)[1], ["crates/xa_two/proofs/A.antt: told -> map_did, which stands there already"])
+        text = "use Rattle.xa_one.specs.Did.{told}\npub record A where\n  pub told : told A\n"
+        self.assertEqual(self.changed("xa_two/proofs/A.antt", text, word)[1], ["crates/xa_two/proofs/A.antt: told is a field, too"])
+
+    def test_types_and_variants(self):
+        kind, variant = Word("xa_one/src/turn", "Turn", "Result"), Word("xa_one/src/turn", "Turn::Own", "Local")
+        for path, before, after in (
+            ("xa_one/src/turn.rt", "pub enum Turn {\n    Own(u8),\n}\n", "pub enum Result {\n    Local(u8),\n}\n"),
+            ("xa_one/src/a.rt", "use crate::turn::Turn;\nTurn::Own(Other::Own)", "use crate::turn::Result;\nResult::Local(Other::Own)"),
+            ("xa_two/src/a.rt", "use xa_one::{Turn, b};\nTurn::Own", "use xa_one::{Result, b};\nResult::Local"),
+            ("xa_two/src/b.rt", "use xa_three::Turn;\nTurn::Own", "use xa_three::Turn;\nTurn::Own"),
+            (
+                "xa_one/proofs/A.antt",
+                "use Rattle.xa_one.specs.declared.turn.Turn.TheVariants.{Own}\nf = Own",
+                "use Rattle.xa_one.specs.declared.turn.Turn.TheVariants.{Local}\nf = Local",
+            ),
+        ):
+            self.assertEqual(self.changed(path, self.changed(path, before, variant)[0], kind), (after, []))
+
+    def test_words_of_a_file(self):
+        text = "f = c.is_own.ensures own_is_own in-is_own\n"
+        self.assertEqual(local_now("crates/xa_one/proofs/A.antt", text, Local("xa_one", "is_own", "is_local")), text)
+        after = "f = c.is_local.ensures own_is_own in-is_local\n"
+        self.assertEqual(local_now("crates/xa_one/proofs/A.antt", text, Local("xa_one", "is_own", "is_local", True)), after)
+        edit = "file: src/a.rt\nold: is_own(1)\nnew: is_own(2)\n"
+        self.assertEqual(local_now("crates/xa_one/must-fail/a.edit", edit, Local("xa_one/src/b.rt", "is_own", "is_local")), edit)
+        now = edit.replace("is_own", "is_local")
+        self.assertEqual(local_now("crates/xa_one/must-fail/a.edit", edit, Local("xa_one/src/a.rt", "is_own", "is_local")), now)
+        self.assertEqual(local_now("crates/xa_one_more/proofs/A.antt", text, Local("xa_one", "is_own", "is_local", True)), text)
+
+    def test_modules_and_pages(self):
+        files = {
+            "crates/xa_one/specs/Lib.antt": "pub mod Turns\n",
+            "crates/xa_one/specs/Turns.antt": "-- Turns.\n",
+            "crates/xa_one/src/lib.rt": "mod turn;\n\npub use turn::Turn;\n",
+            "crates/xa_one/src/turn.rt": "pub enum Turn {}\n",
+            "docs/a.md": "`Turn` of `crates/xa_one/specs/Turns.antt`\n",
+        }
+        moves = {"xa_one/specs/Turns": "xa_one/specs/Results", "xa_one/src/turn": "xa_one/src/result"}
+        sweep = Sweep("try", "", "", (Word("xa_one/src/turn", "Turn", "Result"),), (), moves, (Page("docs/a.md", "`Turn` of", "`Result` of"),))
+        self.assertEqual(swept(files, sweep, []), {
+            "crates/xa_one/specs/Lib.antt": "pub mod Results\n",
+            "crates/xa_one/specs/Results.antt": "-- Turns.\n",
+            "crates/xa_one/src/lib.rt": "mod result;\n\npub use result::Result;\n",
+            "crates/xa_one/src/result.rt": "pub enum Result {}\n",
+            "docs/a.md": "`Result` of `crates/xa_one/specs/Results.antt`\n",
+        })
+
+    def test_no_word_of_a_module_is_changed_twice(self):
+        rows = [(it.place, it.old) for sweep in SWEEPS for it in sweep.words]
+        self.assertEqual(len(rows), len(set(rows)))
 
 
 if __name__ == "__main__":
