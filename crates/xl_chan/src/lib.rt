@@ -1,4 +1,4 @@
-//! Channels: the code of transfers and transactions.
+//! Lowering of channels: the code of transfers and transactions, by the protocol of tokens on the two ends.
 #![tactic(auto)]
 
 mod statement;

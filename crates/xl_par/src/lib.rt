@@ -1,4 +1,4 @@
-//! Threads: the code that opens and closes a `par`, and the code that ends its branches and a root.
+//! Lowering of `par`: the code that opens and closes one, and the code that ends its branches and a root.
 #![tactic(auto)]
 
 mod closing;

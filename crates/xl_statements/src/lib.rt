@@ -1,4 +1,4 @@
-//! The code of statements: a walk that calls the pieces of code, and what stands where.
+//! Lowering of statements: a walk that calls the pieces of code, and what stands where.
 #![tactic(auto)]
 
 mod par;
