@@ -2,6 +2,7 @@ ghost use Rattle.std.specs.Prelude.{◌<◌};
 
 use crate::graph::Graph;
 use std::alloc::Global;
+use xw_words::allocation::push;
 use xw_words::{List, Memory};
 
 /// An item on the way from a root.
@@ -181,12 +182,5 @@ fn put(numbers: &mut List<usize>, place: usize, number: usize) {
 fn lower(numbers: &mut List<usize>, place: usize, number: usize) {
     if number < at(numbers, place) {
         put(numbers, place, number);
-    }
-}
-
-fn push<T: Drop>(items: &mut Vec<T>, item: T) -> Result<(), Memory> {
-    match items.push(item) {
-        Ok(()) => Ok(()),
-        Err(_) => Err(Memory),
     }
 }
