@@ -1,6 +1,7 @@
 -- Which function a name calls.
 use Rattle.std.proofs.Common.{◌≡◌, ℕ, ◌<◌, List, length, get_or, slice_get, Option, None, Some, refl, sym, ap, subst, ◌∙◌, arith}
-use Rattle.std.proofs.lemmas.Option.{slice_get-get_or, slice_get_within}
+use Rattle.std.proofs.lemmas.Option.{slice_get-get_or, slice_get_within, none-some}
+use Rattle.xw_words.proofs.Lists.{some_same}
 use Rattle.xw_words.specs.declared.pos.Pos.{Pos}
 use Rattle.xc_tree.specs.declared.names.Mark.{Mark}
 use Rattle.xc_tree.specs.declared.names.Mark.TheVariants.{Opens, Closes, Declares, Uses, Calls}
@@ -8,19 +9,13 @@ use Rattle.xc_names.specs.Meanings.{AreMeanings, Meaning, means, unknown}
 use Rattle.xc_names.specs.Callees.{called_at, declared_function, FoundCall, a_call, no_call}
 use Rattle.xc_names.proofs.NameRules.{spelled_here}
 
-some_same : {A : Type 0} (a b : A) → Some a ≡ Some b → a ≡ b
-some_same a b e = cc
-
-clash : {A : Type 0} (x : A) → None ≡ Some x → ⊥
-clash x e = cc
-
 pub is_none : {A : Type 0} (r : Option A) → ((x : A) → r ≡ Some x → ⊥) → r ≡ None
 is_none None h = refl
 is_none (Some x) h = absurd (h x refl)
 
 module _ (ms : List Mark) (meant : List (Option ℕ)) (u : ℕ) (m : Mark) (there : slice_get ms u ≡ Some m) where
   pub none_called : called_at m ≡ None → FoundCall ms meant u None
-  none_called e = no_call (λ p g c. clash p (sym e ∙ ap called_at (some_same m c.mark (sym there ∙ c.there)) ∙ c.called))
+  none_called e = no_call (λ p g c. none-some p (sym e ∙ ap called_at (some_same m c.mark (sym there ∙ c.there)) ∙ c.called))
 
   module _ (a : AreMeanings ms meant) where
     meant_read : slice_get meant u ≡ Some (get_or meant u None)
@@ -30,20 +25,20 @@ module _ (ms : List Mark) (meant : List (Option ℕ)) (u : ℕ) (m : Mark) (ther
         inside h e = omega arith
 
     pub none_meant : get_or meant u None ≡ None → FoundCall ms meant u None
-    none_meant e = no_call (λ p g c. clash c.place (sym e ∙ some_same _ _ (sym meant_read ∙ c.means)))
+    none_meant e = no_call (λ p g c. none-some c.place (sym e ∙ some_same _ _ (sym meant_read ∙ c.means)))
 
     pub meant_inside : (p : Pos) → called_at m ≡ Some p → (d : ℕ) → get_or meant u None ≡ Some d → d < length ms
     meant_inside p e d f = by m there e
       where
         of_meaning : (t : List ℕ) (o : Option ℕ) → Meaning ms u t o → o ≡ Some d → d < length ms
         of_meaning t o (means {d = x} k) q = subst (λ (j : ℕ). j < length ms) (some_same x d q) (slice_get_within ms x _ k.declared.there)
-        of_meaning t o (unknown no_one) q = absurd (clash d q)
+        of_meaning t o (unknown no_one) q = absurd (none-some d q)
 
         by : (x : Mark) → slice_get ms u ≡ Some x → called_at x ≡ Some p → d < length ms
-        by Opens g h = absurd (clash p h)
-        by Closes g h = absurd (clash p h)
-        by (Declares y) g h = absurd (clash p h)
-        by (Uses y) g h = absurd (clash p h)
+        by Opens g h = absurd (none-some p h)
+        by Closes g h = absurd (none-some p h)
+        by (Declares y) g h = absurd (none-some p h)
+        by (Uses y) g h = absurd (none-some p h)
         by (Calls n) g h = of_meaning n.text (get_or meant u None) (spelled_here ms u (Calls n) n.text meant (get_or meant u None) a g refl meant_read) f
 
     module _ (d : ℕ) (dm : Mark) (e : get_or meant u None ≡ Some d) (declared : slice_get ms d ≡ Some dm) where
@@ -51,7 +46,7 @@ module _ (ms : List Mark) (meant : List (Option ℕ)) (u : ℕ) (m : Mark) (ther
       means_it = meant_read ∙ ap Some e
 
       pub none_function : declared_function dm ≡ None → FoundCall ms meant u None
-      none_function f = no_call (λ p g c. clash g (sym f ∙ ap declared_function (some_same dm c.declaration (sym declared ∙ ap (slice_get ms) (same c.place (some_same _ _ (sym means_it ∙ c.means))) ∙ c.declared)) ∙ c.function))
+      none_function f = no_call (λ p g c. none-some g (sym f ∙ ap declared_function (some_same dm c.declaration (sym declared ∙ ap (slice_get ms) (same c.place (some_same _ _ (sym means_it ∙ c.means))) ∙ c.declared)) ∙ c.function))
         where
           same : (x : ℕ) → Some d ≡ Some x → d ≡ x
           same x q = some_same d x q

@@ -1,8 +1,9 @@
 -- The calls that the search finds are those that stand on a cycle of calls.
-use Rattle.std.proofs.Common.{◌≡◌, ℕ, ◌+◌, ◌<◌, ◌≤◌, ◌⊎◌, inl, inr, List, length, slice_get, Option, None, Some, refl, sym, ap, subst, ◌∙◌, arith}
+use Rattle.std.proofs.Common.{◌≡◌, ℕ, ◌+◌, ◌<◌, ◌≤◌, ◌⊎◌, inl, inr, List, length, slice_get, Option, Some, refl, sym, ap, subst, ◌∙◌, arith}
 use Rattle.std.proofs.lemmas.Bool.{cases_lt}
 use Rattle.std.proofs.lemmas.List.{take_all}
-use Rattle.std.proofs.lemmas.Option.{slice_get_within}
+use Rattle.std.proofs.lemmas.Option.{slice_get_within, none-some}
+use Rattle.xw_words.proofs.Lists.{some_same}
 use Rattle.xw_words.specs.declared.pos.Pos.{Pos}
 use Rattle.xw_words.specs.declared.pos.Broken.{Broken}
 use Rattle.xc_tree.specs.declared.tree.Id.{Id}
@@ -23,12 +24,6 @@ use Rattle.xc_names.specs.Searches.{IsInBody, IsStep, IsNext, IsReached, itself,
 use Rattle.xc_tree.proofs.Leasts.{of_same}
 use Rattle.xc_names.proofs.NameRules.{spelled_here}
 
-some_same : {A : Type 0} (a b : A) → Some a ≡ Some b → a ≡ b
-some_same a b e = cc
-
-clash : {A : Type 0} (x : A) → None ≡ Some x → ⊥
-clash x e = cc
-
 both_within : (ms : List Mark) (d e : ℕ) → IsWithin ms d e → IsWithin ms e d → d ≡ e
 both_within ms d e (inl h) (inl k) = absurd (omega arith)
 both_within ms d e (inl h) (inr k) = let z = k.0 in absurd (omega arith)
@@ -40,17 +35,17 @@ pub one_meaning : (ms : List Mark) (u : ℕ) (t : List ℕ) (d e : ℕ) → Mean
 one_meaning ms u t d e a b = both_within ms d e (a.innermost e b.declared b.known) (b.innermost d a.declared a.known)
 
 a_function : (w : What) (g : ℕ) → function_of w ≡ Some g → w ≡ what.Func g
-a_function (what.Word u) g e = absurd (clash g e)
-a_function (what.Array u n) g e = absurd (clash g e)
-a_function (what.Ref u) g e = absurd (clash g e)
-a_function (what.ArrayParam u n) g e = absurd (clash g e)
-a_function (what.Chan s) g e = absurd (clash g e)
-a_function (what.End s) g e = absurd (clash g e)
-a_function what.Timer g e = absurd (clash g e)
-a_function (what.Port d) g e = absurd (clash g e)
-a_function (what.PortParam d) g e = absurd (clash g e)
+a_function (what.Word u) g e = absurd (none-some g e)
+a_function (what.Array u n) g e = absurd (none-some g e)
+a_function (what.Ref u) g e = absurd (none-some g e)
+a_function (what.ArrayParam u n) g e = absurd (none-some g e)
+a_function (what.Chan s) g e = absurd (none-some g e)
+a_function (what.End s) g e = absurd (none-some g e)
+a_function what.Timer g e = absurd (none-some g e)
+a_function (what.Port d) g e = absurd (none-some g e)
+a_function (what.PortParam d) g e = absurd (none-some g e)
 a_function (what.Func k) g e = ap what.Func (some_same k g e)
-a_function what.Index g e = absurd (clash g e)
+a_function what.Index g e = absurd (none-some g e)
 
 -- a name that calls item g by what names mean
 pub record IsNamedCall (program : List plain.Item) (u f g : ℕ) (p : Pos) : Type 0 where
@@ -87,7 +82,7 @@ module _ (program : List plain.Item) (meant : List (Option ℕ)) (starts : List 
   to_named f u g p s = by s.call.mark s.call.there s.call.called
     where
       of_meaning : (n : Id) → slice_get (of_program program) u ≡ Some (Calls n) → p ≡ n.pos → (o : Option ℕ) → Meaning (of_program program) u n.text o → o ≡ Some s.call.place → IsNamedCall program u f g p
-      of_meaning n e q o (unknown no_one) x = absurd (clash s.call.place x)
+      of_meaning n e q o (unknown no_one) x = absurd (none-some s.call.place x)
       of_meaning n e q o (means {d = d} k) x =
           let same : d ≡ s.call.place = some_same d s.call.place x in
           let decl : Declares k.declared.decl ≡ s.call.declaration = some_same _ _ (sym k.declared.there ∙ ap (slice_get (of_program program)) same ∙ s.call.declared) in
@@ -106,10 +101,10 @@ module _ (program : List plain.Item) (meant : List (Option ℕ)) (starts : List 
           }
 
       by : (m : Mark) → slice_get (of_program program) u ≡ Some m → called_at m ≡ Some p → IsNamedCall program u f g p
-      by Opens e q = absurd (clash p q)
-      by Closes e q = absurd (clash p q)
-      by (Declares d) e q = absurd (clash p q)
-      by (Uses n) e q = absurd (clash p q)
+      by Opens e q = absurd (none-some p q)
+      by Closes e q = absurd (none-some p q)
+      by (Declares d) e q = absurd (none-some p q)
+      by (Uses n) e q = absurd (none-some p q)
       by (Calls n) e q = of_meaning n e (sym (some_same n.pos p q)) (Some s.call.place) (spelled_here (of_program program) u (Calls n) n.text meant (Some s.call.place) are e refl s.call.means) refl
 
   pub of_named : (f u g : ℕ) (n : Id) → CallsAt program u f g n → IsStep (of_program program) meant starts f u n.pos g

@@ -10,8 +10,7 @@ use Rattle.xc_tree.specs.Names.Scopes.{to_end, end_of}
 use Rattle.xc_names.specs.Ends.{AreEnds, open_before, last_or}
 use Rattle.std.proofs.lemmas.Bool.{cases_eq}
 use Rattle.std.proofs.lemmas.List.{length-set}
-use Rattle.xc_names.proofs.Lists.{pushed, set_at, set_other}
-use Rattle.xc_names.proofs.Steps.{drop_item}
+use Rattle.xw_words.proofs.Lists.{pushed, set_at, set_other, drop_item}
 
 -- the ends of the scopes that are open at place i of n marks, of which these are left: the innermost scope's is the last
 pub record Stack (n i : ℕ) (rest : List Mark) (ks : List ℕ) : Type 0 where

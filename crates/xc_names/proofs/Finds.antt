@@ -1,8 +1,8 @@
 -- Looking a declaration up along those that its name meant before.
 use Rattle.std.proofs.Common.{◌≡◌, ℕ, suc, ◌+◌, ◌-◌, ◌<◌, ◌≤◌, List, [], ◌∷◌, ◌++◌, length, get_or, slice_get, Option, None, Some, refl, sym, subst, ◌∙◌, arith}
 use Rattle.std.proofs.lemmas.Option.{slice_get-get_or, slice_get_within, get_or_from_slice_get}
+use Rattle.xw_words.proofs.Lists.{push_before, some_same}
 use Rattle.xc_names.specs.Reads.{EndsBehind, behind, Finds, nothing, open_still, ended, IsFound}
-use Rattle.xc_names.proofs.Lists.{push_before}
 
 -- what is found from the next one is found from the first, and there is such
 pub record Leads (ends : List ℕ) (outer : List (Option ℕ)) (u : ℕ) (from next : Option ℕ) : Type 0 where
@@ -23,9 +23,6 @@ pub record Looks (ends : List ℕ) (outer : List (Option ℕ)) (u : ℕ) (from :
   pub still : u < get_or ends d 0 → Finds ends outer u from (Some d)
   pub in_outer : get_or ends d 0 ≤ u → d < length outer
   pub onward : (o : Option ℕ) → get_or ends d 0 ≤ u → slice_get outer d ≡ Some o → Leads ends outer u from o × (left ends u o < left ends u (Some d))
-
-some_same : {A : Type 0} (a b : A) → Some a ≡ Some b → a ≡ b
-some_same a b e = cc
 
 later : (ends : List ℕ) (e u : ℕ) (o : Option ℕ) → EndsBehind ends e o → e ≤ u → left ends u o < suc (u + 1 - e)
 later ends e u None b h = omega arith

@@ -2,6 +2,7 @@
 use Rattle.std.proofs.Common.{◌≡◌, ℕ, ◌+◌, ◌<◌, ◌≤◌, ◌⊎◌, inl, inr, Bool, true, false, not, nat_eq, List, [], ◌∷◌, ◌++◌, length, get_or, slice_get, Option, None, Some, refl, sym, ap, subst, ◌∙◌, arith}
 use Rattle.std.proofs.lemmas.Bool.Decides.{nat_tests}
 use Rattle.std.proofs.lemmas.Option.{slice_get_read, slice_get_within}
+use Rattle.xw_words.proofs.Lists.{below_or_at, push_at, push_before, some_same}
 use Rattle.xw_words.specs.declared.pos.Pos.{Pos}
 use Rattle.xw_words.specs.declared.pos.Broken.{Broken}
 use Rattle.xc_tree.specs.declared.names.Mark.{Mark}
@@ -13,11 +14,7 @@ use Rattle.xc_names.specs.Callees.{IsCall, FoundCall, a_call, no_call}
 use Rattle.xc_names.specs.Searches.{IsStep, AreBounds, IsReached, itself, further, IsBackTo, IsBackToOne}
 use Rattle.xc_names.specs.Graphs.{HasEdge, IsLonger, HasCall, HasCalls, number_in, NeverRises, rule_at, IsNotLater, IsFirstLevel, first_edge, level_edge, no_later}
 use Rattle.xc_tree.proofs.Leasts.{before, not_before, not_after_self, not_after_trans, none_broken}
-use Rattle.xc_names.proofs.Lists.{below_or_at, push_before, push_at}
 use Rattle.xc_names.proofs.Searches.{one_call}
-
-some_same : {A : Type 0} (a b : A) → Some a ≡ Some b → a ≡ b
-some_same a b e = cc
 
 abbrev an_edge : ℕ → ℕ → Pos → Edge
 an_edge f h p = record { caller = f; callee = h; pos = p }

@@ -2,12 +2,12 @@
 use Rattle.std.proofs.Common.{◌≡◌, ℕ, zero, suc, ◌+◌, ◌-◌, ◌<◌, ◌≤◌, ◌⊎◌, inl, inr, List, [], ◌∷◌, length, drop, Option, None, Some, sym, ap, subst, ◌∙◌, arith}
 use Rattle.std.proofs.lemmas.List.{drop-drop, length-drop}
 use Rattle.std.proofs.Math.Nat.{eq-or-lt_of_le}
+use Rattle.xw_words.proofs.Lists.{below_or_at, drop_found, some_same}
 use Rattle.xc_tree.specs.declared.names.Mark.{Mark}
 use Rattle.xc_tree.specs.declared.names.Mark.TheVariants.{Opens, Closes, Declares, Uses, Calls}
 use Rattle.xc_tree.specs.Names.Scopes.{to_end, end_of, DeclaresAt, IsKnown, IsWithin}
 use Rattle.xc_names.specs.Meanings.{spelling_of, IsSpelledAt, Meaning, means, unknown}
 use Rattle.xc_names.specs.Reads.{IsSeen, Answer, best, none_known}
-use Rattle.xc_names.proofs.Lists.{below_or_at, drop_found}
 
 -- more scopes that have begun since end no later
 to_end_mono : (ms : List Mark) (j k : ℕ) → j ≤ k → to_end j ms ≤ to_end k ms
@@ -54,9 +54,6 @@ nested ms c d h less =
     let e : drop (d - c) (drop c ms) ≡ drop d ms = drop-drop (d - c) c ms ∙ ap (λ k. drop k ms) (back_to c d h) in
     let f : (d - c) + to_end 0 (drop d ms) ≤ to_end 0 (drop c ms) = subst (λ (xs : List Mark). (d - c) + to_end 0 xs ≤ to_end 0 (drop c ms)) e g in
     omega arith
-
-some_same : {A : Type 0} (a b : A) → Some a ≡ Some b → a ≡ b
-some_same a b e = cc
 
 -- one place has one spelling
 pub one_spelling : (ms : List Mark) (i : ℕ) (t s : List ℕ) → IsSpelledAt ms i t → IsSpelledAt ms i s → t ≡ s

@@ -19,5 +19,4 @@ pub mod OneNaming
 pub mod Depths
 pub mod Steps
 pub mod Bodies
-pub mod Lists
 pub mod Starts

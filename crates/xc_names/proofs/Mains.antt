@@ -3,6 +3,7 @@ use Rattle.std.proofs.Common.{◌≡◌, ℕ, suc, ◌+◌, ◌<◌, ◌⊎◌, 
 use Rattle.std.specs.Cmp.Lexicographic.{pointwise, bytes_decides}
 use Rattle.std.proofs.lemmas.Bool.Decides.{nat_tests}
 use Rattle.std.proofs.lemmas.Option.{slice_get_read, slice_get-map}
+use Rattle.xw_words.proofs.Lists.{below_or_at, some_same}
 use Rattle.xw_words.specs.declared.pos.Pos.{Pos}
 use Rattle.xw_words.specs.declared.pos.Broken.{Broken}
 use Rattle.xc_tree.specs.declared.tree.Param.{Param}
@@ -13,10 +14,6 @@ use Rattle.xc_tree.specs.Names.Rules.{IsMain}
 use Rattle.xc_tree.specs.Least.{IsLeastOf}
 use Rattle.xc_names.specs.Mains.{IsMainless, mainless, is_main}
 use Rattle.xc_tree.proofs.Leasts.{none_broken, one_broken}
-use Rattle.xc_names.proofs.Lists.{below_or_at}
-
-some_same : {A : Type 0} (a b : A) → Some a ≡ Some b → a ≡ b
-some_same a b e = cc
 
 no_params : (ps : List Param) → nat_eq (length ps) 0 ≡ true → ps ≡ []
 no_params [] e = refl

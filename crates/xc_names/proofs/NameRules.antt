@@ -2,6 +2,7 @@
 use Rattle.std.proofs.Common.{◌≡◌, ℕ, ◌+◌, ◌<◌, ◌≤◌, ◌⊎◌, inl, inr, List, length, slice_get, Bool, true, false, nat_eq, if◌then◌else◌, Option, None, Some, refl, sym, ap, subst, ◌∙◌, arith}
 use Rattle.std.proofs.lemmas.Option.{slice_get_within}
 use Rattle.std.proofs.lemmas.Bool.Decides.{nat_tests}
+use Rattle.xw_words.proofs.Lists.{below_or_at, some_same}
 use Rattle.xw_words.specs.declared.pos.Broken.{Broken}
 use Rattle.xc_tree.specs.declared.tree.Id.{Id}
 use Rattle.xc_tree.specs.declared.names.Decl.{Decl}
@@ -14,10 +15,6 @@ use Rattle.xc_names.specs.Meanings.{spelling_of, Meaning, means, unknown, AreMea
 use Rattle.xc_names.specs.NameRules.{IsBrokenAt, unknown as unknown_name, again, IsBrokenBefore, at_use, at_declaration, broken_by}
 use Rattle.xc_names.proofs.Known.{knows_itself, ends_no_earlier, own_scope}
 use Rattle.xc_tree.proofs.Leasts.{either, of_same, none_broken, one_broken}
-use Rattle.xc_names.proofs.Lists.{below_or_at}
-
-some_same : {A : Type 0} (a b : A) → Some a ≡ Some b → a ≡ b
-some_same a b e = cc
 
 -- another mark breaks neither
 scopes_only : (ms : List Mark) (i : ℕ) (m : Mark) → slice_get ms i ≡ Some m → spelling_of m ≡ None → (b : Broken) → IsBrokenAt ms i b → ⊥

@@ -2,6 +2,7 @@
 use Rattle.std.proofs.Common.{◌≡◌, ℕ, ◌+◌, ◌<◌, ◌≤◌, ◌⊎◌, inl, inr, List, [], ◌∷◌, length, get_or, slice_get, Bool, true, false, not, ◌&&◌, nat_eq, nat_lt, is_some, option_map, ◌++◌, Option, None, Some, refl, sym, ap, subst, ◌∙◌, arith}
 use Rattle.std.proofs.lemmas.Option.{slice_get_within, slice_get_read, get_or_from_slice_get}
 use Rattle.std.proofs.lemmas.Bool.Decides.{nat_tests}
+use Rattle.xw_words.proofs.Lists.{below_or_at, some_same}
 use Rattle.xc_tree.specs.declared.names.Mark.{Mark}
 use Rattle.xc_tree.specs.declared.names.Mark.TheVariants.{Opens, Closes, Declares, Uses, Calls}
 use Rattle.xc_tree.specs.Names.Scopes.{end_of, DeclaresAt, IsWithin}
@@ -10,10 +11,6 @@ use Rattle.xc_names.specs.Meanings.{spelling_of, declared_by, AreMeanings}
 use Rattle.xc_names.specs.Reads.{Finds, nothing, open_still, IsFound, IsSeen, Answer, best, none_known, Answers, HasRead, FirstGlobal, first, absent, HasGlobals, ends_with, adds_one}
 use Rattle.xc_names.proofs.Known.{end_within, IsInScope, AddsNone}
 use Rattle.xc_names.proofs.Reading.{each_spelling, found_here, pass, look_up, declare}
-use Rattle.xc_names.proofs.Lists.{below_or_at}
-
-some_same : {A : Type 0} (a b : A) → Some a ≡ Some b → a ≡ b
-some_same a b e = cc
 
 both_true : (a b : Bool) → (a && b) ≡ true → (a ≡ true) × (b ≡ true)
 both_true true b e = (refl, e)

@@ -2,6 +2,7 @@
 use Rattle.std.proofs.Common.{◌≡◌, ℕ, ◌+◌, ◌<◌, ◌≤◌, ◌⊎◌, inl, inr, List, [], ◌∷◌, ◌++◌, length, take, drop, slice_get, Option, None, Some, refl, sym, ap, subst, ◌∙◌, arith, length-append}
 use Rattle.std.proofs.lemmas.List.{take-append-drop}
 use Rattle.std.proofs.lemmas.Option.{slice_get_within}
+use Rattle.xw_words.proofs.Lists.{below_or_at, length_push, push_at, push_before, take_push, some_same}
 use Rattle.xw_words.specs.declared.pos.Broken.{Broken}
 use Rattle.xc_tree.specs.declared.names.Mark.{Mark}
 use Rattle.xc_tree.specs.declared.names.Mark.TheVariants.{Opens, Closes, Declares, Uses, Calls}
@@ -9,7 +10,6 @@ use Rattle.xc_tree.specs.Names.Uses.{declarations, number_of, IsUse, Entries, pa
 use Rattle.xc_names.specs.Meanings.{Meaning, means, unknown, AreMeanings}
 use Rattle.xc_names.specs.NameRules.{unknown as unknown_name, IsBrokenBefore}
 use Rattle.xc_names.specs.Numbers.{AreNumbers, count_in, entry_of}
-use Rattle.xc_names.proofs.Lists.{below_or_at, push_before, push_at, length_push, take_push}
 use Rattle.xc_names.proofs.NameRules.{spelled_here}
 
 pub declarations_append : (xs ys : List Mark) → declarations (xs ++ ys) ≡ declarations xs ++ declarations ys
@@ -66,9 +66,6 @@ room_for ms k count numbers m e c =
     let s = number_short ms (k + 1) in
     let g = d.so_far in
     omega arith
-
-some_same : {A : Type 0} (a b : A) → Some a ≡ Some b → a ≡ b
-some_same a b e = cc
 
 -- one name further
 pub onward : (ms : List Mark) (meant : List (Option ℕ)) → AreMeanings ms meant → ((b : Broken) → IsBrokenBefore ms (length ms) b → ⊥) → (i : ℕ) (m : Mark) (o : Option ℕ) (ns : List ℕ) → slice_get ms i ≡ Some m → slice_get meant i ≡ Some o → Entries ms i ns → ((d : ℕ) → entry_of m i o ≡ Some d → Entries ms (i + 1) (ns ++ number_of ms d ∷ [])) × (entry_of m i o ≡ None → Entries ms (i + 1) ns)

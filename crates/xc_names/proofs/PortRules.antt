@@ -4,6 +4,7 @@ use Rattle.std.specs.Cmp.Lexicographic.{pointwise, bytes_decides}
 use Rattle.std.proofs.lemmas.Bool.Decides.{nat_tests}
 use Rattle.std.proofs.lemmas.Option.{slice_get_read, slice_get_within, get_or_from_slice_get}
 use Rattle.std.proofs.lemmas.List.{length-take-le, get_or-take, take_all, take-append-le}
+use Rattle.xw_words.proofs.Lists.{push_at, push_before, pushed, take_push, some_same}
 use Rattle.xw_words.specs.declared.pos.Broken.{Broken}
 use Rattle.xc_tree.specs.Plain as plain
 use Rattle.xc_tree.specs.Names.Ports.{core_of_port, ports}
@@ -14,10 +15,6 @@ use Rattle.xc_names.specs.PortRules.{HasWrongPort, wrong_port, IsOnCore, IsWrong
 use Rattle.xc_names.specs.Taken.{is_among}
 use Rattle.xc_names.proofs.Identifiers.{among_contains, contains_among}
 use Rattle.xc_tree.proofs.Leasts.{either, of_same, none_broken, one_broken}
-use Rattle.xc_names.proofs.Lists.{pushed, push_before, push_at, take_push}
-
-some_same : {A : Type 0} (a b : A) → Some a ≡ Some b → a ≡ b
-some_same a b e = cc
 
 -- the rule at a port's identifier
 abbrev pub at_port : plain.Port → Broken

@@ -4,6 +4,7 @@ use Rattle.std.specs.Cmp.Lexicographic.{pointwise, bytes_decides}
 use Rattle.std.proofs.lemmas.Option.{slice_get_within}
 use Rattle.std.proofs.lemmas.Bool.{cases_lt}
 use Rattle.std.proofs.Math.Nat.{eq-or-lt_of_le}
+use Rattle.xw_words.proofs.Lists.{below_or_at, length_push, push_at, push_before}
 use Rattle.xc_tree.specs.declared.names.Mark.{Mark}
 use Rattle.xc_tree.specs.Names.Scopes.{end_of, DeclaresAt, IsKnown, IsWithin}
 use Rattle.xc_names.specs.Ends.{AreEnds}
@@ -11,7 +12,6 @@ use Rattle.xc_names.specs.Meanings.{IsSpelledAt, Meaning, IsMeantAt}
 use Rattle.xc_names.specs.Reads.{EndsBehind, no_scope, behind, Finds, open_still, ended, IsSeen, Answer, best, none_known, Answers, HasRead}
 use Rattle.xc_names.proofs.Finds.{one_found, found_pushed, found_on}
 use Rattle.xc_names.proofs.Known.{one_spelling, spelled_as, own_scope, seen_more, seen_still, ends_no_earlier, known_on, IsInScope, AddsNone, stays, meaning_of}
-use Rattle.xc_names.proofs.Lists.{below_or_at, push_before, push_at, length_push}
 
 -- the meaning of one more place is kept
 each_more : (ms : List Mark) (meant : List (Option ℕ)) (i : ℕ) (r : Option ℕ) → length meant ≡ i → ((j : ℕ) (s : List ℕ) → j < i → IsSpelledAt ms j s → IsMeantAt ms meant j s) → ((s : List ℕ) → IsSpelledAt ms i s → Meaning ms i s r) → (j : ℕ) (s : List ℕ) → j < i + 1 → IsSpelledAt ms j s → IsMeantAt ms (meant ++ r ∷ []) j s

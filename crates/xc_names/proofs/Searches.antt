@@ -7,6 +7,7 @@ use Rattle.std.proofs.lemmas.Option.{slice_get-get_or, slice_get_read, slice_get
 use Rattle.indexmap.specs.IndexSet.{insert_key}
 use Rattle.indexmap.proofs.CallerLemmas.{Contains-insert_key, Contains-list_any}
 use Rattle.std.proofs.lemmas.Map.Steps.{length-le_from_distinct_below}
+use Rattle.xw_words.proofs.Lists.{below_or_at, push_before, pushed, some_same}
 use Rattle.xw_words.specs.declared.pos.Pos.{Pos}
 use Rattle.xw_words.specs.declared.pos.Broken.{Broken}
 use Rattle.xc_tree.specs.declared.names.Mark.{Mark}
@@ -15,10 +16,6 @@ use Rattle.xc_tree.specs.Least.{IsLeastOf, first_of}
 use Rattle.xc_names.specs.Callees.{called_at, declared_function, IsCall, FoundCall, a_call, no_call}
 use Rattle.xc_names.specs.Searches.{Has, IsStep, IsCallBefore, IsBackBefore, Adds, AreBounds, IsNext, IsBackIn, AddsNext, IsReached, itself, further, IsBackTo, IsBackToOne, back_of}
 use Rattle.xc_tree.proofs.Leasts.{either, of_same, none_broken, one_broken}
-use Rattle.xc_names.proofs.Lists.{below_or_at, pushed, push_before}
-
-some_same : {A : Type 0} (a b : A) → Some a ≡ Some b → a ≡ b
-some_same a b e = cc
 
 equal : (x y : ℕ) → nat_eq x y ≡ true → x ≡ y
 equal x y e = grind (arith, nat_tests)

@@ -2,6 +2,7 @@
 use Rattle.std.proofs.Common.{◌≡◌, ℕ, ◌+◌, ◌<◌, ◌≤◌, ◌⊎◌, inl, inr, List, [], ◌∷◌, ◌++◌, length, take, get_or, slice_get, map, option_map, Some, refl, sym, ap, subst, ◌∙◌, arith, append_assoc, append-nil, add-zero}
 use Rattle.std.proofs.lemmas.List.{take_all, length-take-le, length-map}
 use Rattle.std.proofs.lemmas.Option.{slice_get_read, slice_get-map}
+use Rattle.xw_words.proofs.Lists.{below_or_at, length_push, push_at, push_before, take_push}
 use Rattle.xc_tree.specs.declared.names.Mark.{Mark}
 use Rattle.xc_tree.specs.declared.tree.Item.{Item as Entry}
 use Rattle.xc_tree.specs.Plain.{Item}
@@ -9,7 +10,6 @@ use Rattle.xc_tree.specs.Trees.{item_of}
 use Rattle.xc_tree.specs.Names.Marks.{of_item, of_items, of_program}
 use Rattle.xc_tree.specs.Names.Calls.{first_of}
 use Rattle.xc_names.specs.Starts.{AreStarts}
-use Rattle.xc_names.proofs.Lists.{below_or_at, push_before, push_at, length_push, take_push}
 
 pub items_push : (n : ℕ) (xs : List Item) (x : Item) → of_items n (xs ++ x ∷ []) ≡ of_items n xs ++ of_item (n + length xs) x
 items_push n [] x = append-nil (of_item n x) ∙ ap (λ k. of_item k x) (sym (add-zero n))

@@ -1,7 +1,6 @@
 -- How a walk's list of marks grows by what stands at its place.
-use Rattle.std.proofs.Common.{◌≡◌, ℕ, ◌+◌, ◌<◌, ◌≤◌, suc, List, [], ◌∷◌, ◌++◌, length, drop, get_or, map, sym, ap, ◌∙◌, append_assoc, add-one}
-use Rattle.std.proofs.Math.Seq.{drop-cons}
-use Rattle.std.proofs.lemmas.List.{drop_all}
+use Rattle.std.proofs.Common.{◌≡◌, ℕ, ◌+◌, ◌<◌, List, [], ◌∷◌, ◌++◌, length, drop, get_or, map, sym, ap, ◌∙◌, append_assoc}
+use Rattle.xw_words.proofs.Lists.{drop_item}
 use Rattle.xc_tree.specs.declared.tree.Stmt.{Stmt}
 use Rattle.xc_tree.specs.declared.tree.Branch.{Branch}
 use Rattle.xc_tree.specs.declared.tree.Case.{Case}
@@ -10,9 +9,6 @@ use Rattle.xc_tree.specs.declared.names.Mark.TheVariants.{Opens, Closes}
 use Rattle.xc_tree.specs.Names.Marks.{each, in_scope, of_statement, of_statements, of_branch, of_branches, of_case, of_cases}
 use Rattle.xc_tree.specs.Plain.{statements, branches, cases}
 use Rattle.xc_tree.specs.Trees.{statement_of, branch_of, case_of}
-
-pub drop_item : {A : Type 0} (xs : List A) (i : ℕ) (x : A) → x ≡ get_or xs i x → i < length xs → drop i xs ≡ x ∷ drop (i + 1) xs
-drop_item xs i x e h = rw (add-one, drop-cons xs i x) (ap (λ y. y ∷ drop (suc i) xs) (sym e))
 
 pub each_step : {V W : Type 0} (of : W → List Mark) (plain_of : V → W) (xs : List V) (i : ℕ) (x : V) →
     x ≡ get_or xs i x → i < length xs → each of (map plain_of (drop i xs)) ≡ of (plain_of x) ++ each of (map plain_of (drop (i + 1) xs))
@@ -26,9 +22,6 @@ branches_step xs i x e h = ap (λ ys. of_branches (branches (map branch_of ys)))
 
 pub cases_step : (xs : List Case) (i : ℕ) (x : Case) → x ≡ get_or xs i x → i < length xs → of_cases (cases (map case_of (drop i xs))) ≡ of_case (case_of x) ++ of_cases (cases (map case_of (drop (i + 1) xs)))
 cases_step xs i x e h = ap (λ ys. of_cases (cases (map case_of ys))) (drop_item xs i x e h)
-
-pub drop_past : {A : Type 0} (xs : List A) (i : ℕ) → length xs ≤ i → drop i xs ≡ []
-drop_past xs i h = drop_all i xs h
 
 -- marks behind one mark, which was added before them
 pub behind_one : (before : List Mark) (m : Mark) (after : List Mark) → before ++ m ∷ after ≡ (before ++ m ∷ []) ++ after

@@ -1,13 +1,12 @@
 -- The first of the broken rules of some kind, and of two kinds.
 use Rattle.std.proofs.Common.{◌≡◌, ◌<◌, ◌≤◌, ◌⊎◌, inl, inr, Bool, true, false, Option, None, Some, if◌then◌else◌, refl, sym, subst, ◌∙◌, arith}
 use Rattle.std.proofs.lemmas.Bool.Decides.{nat_tests}
+use Rattle.std.proofs.lemmas.Option.{none-some}
+use Rattle.xw_words.proofs.Lists.{some_same}
 use Rattle.xw_words.specs.declared.pos.Pos.{Pos}
 use Rattle.xw_words.specs.declared.pos.Broken.{Broken}
 use Rattle.xc_tree.specs.Lexes.{IsBefore, IsNotAfter}
 use Rattle.xc_tree.specs.Least.{IsFirst, IsLeastOf, comes_before, first_of}
-
-some_same : {A : Type 0} (a b : A) → Some a ≡ Some b → a ≡ b
-some_same a b e = cc
 
 pub not_after_self : (a : Broken) → IsNotAfter a a
 not_after_self a = inr (refl, omega arith)
@@ -49,9 +48,6 @@ not_before a b h = by split
     by (inr (x, inl y)) = inl (inr (x, y))
     by (inr (x, inr y)) = inr (one_place b.pos a.pos x y.0, y.1)
 
-clash : {A : Type 0} (x : A) → None ≡ Some x → ⊥
-clash x e = cc
-
 -- a least one is no later than each other
 under : (P : Broken → Type 0) (a : Broken) → IsLeastOf P (Some a) → (b : Broken) → P b → IsNotAfter a b
 under P a p b h = let l = p.least b h in subst (λ (x : Broken). IsNotAfter x b) (sym (some_same a l.0 l.1)) l.2
@@ -62,7 +58,7 @@ first_of_least P b p = record { breaks = p.among b refl; least = under P b p }
 
 -- and else there is none
 pub none_of : (P : Broken → Type 0) → IsLeastOf P None → (b : Broken) → P b → ⊥
-none_of P p b h = let l = p.least b h in clash l.0 l.1
+none_of P p b h = let l = p.least b h in none-some l.0 l.1
 
 module _ (P Q : Broken → Type 0) where
   left_first : (a b : Broken) → IsNotAfter a b → IsLeastOf P (Some a) → IsLeastOf Q (Some b) → IsLeastOf (λ x. P x ⊎ Q x) (Some a)
@@ -87,7 +83,7 @@ module _ (P Q : Broken → Type 0) where
 
   -- the first of the least of two kinds is the least of both
   pub either : (a b : Option Broken) → IsLeastOf P a → IsLeastOf Q b → IsLeastOf (λ x. P x ⊎ Q x) (first_of a b)
-  either None None p q = record { among = λ x e. absurd (clash x e); least = λ x k. absurd (by x k) }
+  either None None p q = record { among = λ x e. absurd (none-some x e); least = λ x k. absurd (by x k) }
     where
       by : (x : Broken) → P x ⊎ Q x → ⊥
       by x (inl k) = none_of P p x k
@@ -113,7 +109,7 @@ module _ (P Q : Broken → Type 0) where
   of_same a to from p = record { among = λ x e. to x (p.among x e); least = λ x k. p.least x (from x k) }
 
 pub none_broken : (P : Broken → Type 0) → ((b : Broken) → P b → ⊥) → IsLeastOf P None
-none_broken P h = record { among = λ x e. absurd (clash x e); least = λ x k. absurd (h x k) }
+none_broken P h = record { among = λ x e. absurd (none-some x e); least = λ x k. absurd (h x k) }
 
 pub one_broken : (P : Broken → Type 0) (a : Broken) → P a → ((b : Broken) → P b → b ≡ a) → IsLeastOf P (Some a)
 one_broken P a h only = record {

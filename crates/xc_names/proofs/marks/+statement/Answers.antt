@@ -1,4 +1,5 @@
 use Rattle.std.proofs.Common.{◌++◌, List, map, refl, sym, ap, ◌∙◌, append-nil}
+use Rattle.std.proofs.lemmas.List.{drop_all}
 use Rattle.xc_tree.specs.declared.names.Mark.TheVariants.{Uses}
 use Rattle.xc_tree.specs.declared.names.What.TheVariants.{Index}
 use Rattle.xc_tree.specs.declared.tree.Branch.{Branch}
@@ -11,7 +12,7 @@ use Rattle.xc_tree.specs.Trees.{statement_of, maybe_of, branch_of, case_of}
 use Rattle.xc_tree.proofs.Heights.{in_right, in_last, item_within}
 use Rattle.xc_tree.proofs.Forms.{statement-Stmt, branch-Branch, case-Case, action-Empty, action-Block, action-Decl, action-Assign, action-Step, action-Do, action-Output, action-Input, action-If, action-While, action-DoWhile, action-For, action-Return, action-Break, action-Continue, action-Par, action-Repl, action-Select, action-Tran}
 use Rattle.xc_names.proofs.Depths.{falls, no_deeper, inside, itself, same, first, second, second_of_three, third, third_of_four, fourth}
-use Rattle.xc_names.proofs.Steps.{behind_two, behind_three, behind_four, behind_scope, behind_replicated, drop_past, statements_step, branches_step, cases_step}
+use Rattle.xc_names.proofs.Steps.{behind_two, behind_three, behind_four, behind_scope, behind_replicated, statements_step, branches_step, cases_step}
 use Rattle.xc_names.proofs.marks.+statement.Goals as goal
 
 pub statements-loop-s-preserved : goal.statements-loop-s-preserved
@@ -22,7 +23,7 @@ statements-loop-s-preserved t c =
 pub statements-returns : goal.statements-returns
 statements-returns t c =
     sym (c.loop-s.invariant
-    ∙ ap (λ (ss : List Stmt). c.loop-s.out ++ of_statements (plain.statements (map statement_of ss))) (drop_past c.args.ss.now c.loop-s.s-index c.loop-s-test.false)
+    ∙ ap (λ (ss : List Stmt). c.loop-s.out ++ of_statements (plain.statements (map statement_of ss))) (drop_all c.loop-s.s-index c.args.ss.now c.loop-s-test.false)
     ∙ append-nil c.loop-s.out)
 
 pub branches-loop-b-preserved : goal.branches-loop-b-preserved
@@ -33,7 +34,7 @@ branches-loop-b-preserved t c =
 pub branches-returns : goal.branches-returns
 branches-returns t c =
     sym (c.loop-b.invariant
-    ∙ ap (λ (bs : List Branch). c.loop-b.out ++ of_branches (plain.branches (map branch_of bs))) (drop_past c.args.bs.now c.loop-b.b-index c.loop-b-test.false)
+    ∙ ap (λ (bs : List Branch). c.loop-b.out ++ of_branches (plain.branches (map branch_of bs))) (drop_all c.loop-b.b-index c.args.bs.now c.loop-b-test.false)
     ∙ append-nil c.loop-b.out)
 
 pub cases-loop-c-preserved : goal.cases-loop-c-preserved
@@ -44,7 +45,7 @@ cases-loop-c-preserved t c =
 pub cases-returns : goal.cases-returns
 cases-returns t c =
     sym (c.loop-c.invariant
-    ∙ ap (λ (cs : List Case). c.loop-c.out ++ of_cases (plain.cases (map case_of cs))) (drop_past c.args.cs.now c.loop-c.c-index c.loop-c-test.false)
+    ∙ ap (λ (cs : List Case). c.loop-c.out ++ of_cases (plain.cases (map case_of cs))) (drop_all c.loop-c.c-index c.args.cs.now c.loop-c-test.false)
     ∙ append-nil c.loop-c.out)
 
 pub branch-returns : goal.branch-returns

@@ -1,8 +1,9 @@
 use Rattle.std.proofs.Common.{◌++◌, List, map, sym, ap, ◌∙◌, append-nil}
+use Rattle.std.proofs.lemmas.List.{drop_all}
 use Rattle.xc_tree.specs.declared.tree.Arg.{Arg}
 use Rattle.xc_tree.specs.Names.Marks.{each, of_argument}
 use Rattle.xc_tree.specs.Trees.{argument_of}
-use Rattle.xc_names.proofs.Steps.{behind_two, drop_past, each_step}
+use Rattle.xc_names.proofs.Steps.{behind_two, each_step}
 use Rattle.xc_names.proofs.marks.arguments.Goals as goal
 
 pub loop-arg-preserved : goal.loop-arg-preserved
@@ -18,5 +19,5 @@ pub returns : goal.returns
 returns c =
     sym (c.loop-arg.invariant
     ∙ ap (λ (args : List Arg). c.loop-arg.out ++ each of_argument (map argument_of args))
-    (drop_past c.args.args.now c.loop-arg.arg-index c.loop-arg-test.false)
+    (drop_all c.loop-arg.arg-index c.args.args.now c.loop-arg-test.false)
     ∙ append-nil c.loop-arg.out)

@@ -1,8 +1,9 @@
 use Rattle.std.proofs.Common.{◌+◌, ◌++◌, List, drop, map, sym, ap, ◌∙◌, append-nil}
+use Rattle.std.proofs.lemmas.List.{drop_all}
 use Rattle.xc_tree.specs.declared.tree.Declared.{Declared}
 use Rattle.xc_tree.specs.Names.Marks.{each, of_declaration, of_initial}
 use Rattle.xc_tree.specs.Trees.{declaration_of, kind_of}
-use Rattle.xc_names.proofs.Steps.{behind_one, behind_two, drop_past, each_step}
+use Rattle.xc_names.proofs.Steps.{behind_one, behind_two, each_step}
 use Rattle.xc_names.proofs.marks.declarations.Goals as goal
 
 pub loop-d-preserved : goal.loop-d-preserved
@@ -23,5 +24,5 @@ pub returns : goal.returns
 returns c =
     sym (c.loop-d.invariant
     ∙ ap (λ (ds : List Declared). c.loop-d.out ++ each of_declaration (map declaration_of ds))
-    (drop_past c.args.declared.now c.loop-d.d-index c.loop-d-test.false)
+    (drop_all c.loop-d.d-index c.args.declared.now c.loop-d-test.false)
     ∙ append-nil c.loop-d.out)
