@@ -1,7 +1,8 @@
 -- The names of ports.
 use Rattle.std.proofs.Common.{◌≡◌, ℕ, ◌+◌, ◌<◌, ◌≤◌, List, [], ◌∷◌, ◌++◌, length, drop, get_or, map, refl, ap, sym, subst, ◌∙◌}
-use Rattle.std.proofs.lemmas.List.{append-nil, append_assoc}
+use Rattle.std.proofs.lemmas.List.{append-nil, append_assoc, drop_all}
 use Rattle.std.specs.Borrow.{Bor}
+use Rattle.xw_words.proofs.Lists.{drop_item}
 use Rattle.xc_tree.specs.Plain as tree
 use Rattle.xc_tree.specs.Trees.{item_of}
 use Rattle.xc_tree.specs.declared.tree.Item.{Item}
@@ -9,7 +10,6 @@ use Rattle.xc_kernel.specs.Ports.{scope_of_ports}
 use Rattle.xc_kernel.specs.Programs.{ports}
 use Rattle.xc_kernel.specs.Scopes.{a_port, with_name}
 use Rattle.xc_inline.specs.Contexts.{ports_from}
-use Rattle.xc_inline.proofs.Laws.Lists.{drop_item, drop_end}
 use Rattle.xc_flat.specs.Ports.{names_among, names_of_ports}
 
 -- ports of these names have these numbers
@@ -37,5 +37,5 @@ names_more items xs i x before same e h added so_far =
 
 pub names_all : (items xs : List Item) (i : ℕ) (made : List (List ℕ)) {whole : List (List ℕ)} → xs ≡ items → length xs ≤ i → made ++ names_of_ports (ports (map item_of (drop i items))) ≡ whole → made ≡ whole
 names_all items xs i made same h so_far =
-    let none = ap (λ ys. names_of_ports (ports (map item_of ys))) (drop_end items i (subst (λ (ys : List Item). length ys ≤ i) same h)) in
+    let none = ap (λ ys. names_of_ports (ports (map item_of ys))) (drop_all i items (subst (λ (ys : List Item). length ys ≤ i) same h)) in
     sym (append-nil made) ∙ sym (ap (λ r. made ++ r) none) ∙ so_far

@@ -1,5 +1,4 @@
 -- Lemmas of the copying walk.
-pub mod Lists
 pub mod Results
 pub mod Scopes
 pub mod Functions

@@ -2,6 +2,7 @@
 use Rattle.std.proofs.Common.{◌≡◌, ℕ, zero, suc, ◌+◌, ◌<◌, ◌≤◌, ◌≢◌, ◌⊎◌, inl, inr, List, [], ◌∷◌, ◌++◌, length, get_or, replicate, Bor, Option, Some, None, refl, sym, ap, subst, ◌∙◌, arith, add-one}
 use Rattle.std.specs.Prelude.{slice_get, slice_set}
 use Rattle.std.proofs.lemmas.List.{length-map, length-set, length-append, length-replicate}
+use Rattle.xw_words.proofs.Lists.{below_or_at, push_at, push_before, set_at, set_other, some_same}
 use Rattle.xc_tree.specs.declared.tree.FuncItem.{FuncItem}
 use Rattle.xc_tree.specs.Plain as tree
 use Rattle.xc_kernel.specs.Programs.{Function, function_named}
@@ -15,7 +16,7 @@ use Rattle.xc_size.specs.Known.{AreKnown, IsSizeOfCall, IsSizeOfFunction, AreOfF
 use Rattle.xc_size.specs.Numbers.{number_of}
 use Rattle.xc_size.specs.Sizes.{no_size}
 use Rattle.xc_size.proofs.Numbered.{mapped}
-use Rattle.xc_size.proofs.Places.{some_same, same_or_other, below_or_at, push_before, push_at, set_at, set_other, repeats, repeats_only}
+use Rattle.xc_size.proofs.Places.{same_or_other, repeats, repeats_only}
 use Rattle.xc_size.proofs.Right.{all_known, all_at, function_right}
 use Rattle.xc_size.proofs.UpTo.{up_to_none}
 

@@ -1,6 +1,5 @@
 -- Counts of a list that are gathered from its front, no further than one above their limits.
-use Rattle.std.proofs.Common.{◌≡◌, ℕ, ◌+◌, ◌<◌, max, suc, List, ◌∷◌, length, drop, get_or, sym, ap, add-one, arith}
-use Rattle.std.proofs.Math.Seq.{drop-cons}
+use Rattle.std.proofs.Common.{◌≡◌, ℕ, ◌+◌, max, arith}
 use Rattle.xc_kernel.specs.Size.{most_statements, most_nodes, greatest_depth}
 use Rattle.xc_size.specs.declared.size.Size.{Size}
 use Rattle.xc_size.specs.Sizes.{up_to, no_size}
@@ -13,9 +12,6 @@ pub record Gathers (limit all gathered rest : ℕ) : Type 0 where
 pub record GathersHighest (limit all gathered rest : ℕ) : Type 0 where
   pub whole : up_to limit all ≡ up_to limit (max gathered rest)
   pub within : up_to limit gathered ≡ gathered
-
-pub drop_item : {A : Type 0} (xs : List A) (i : ℕ) (x : A) → x ≡ get_or xs i x → i < length xs → drop i xs ≡ x ∷ drop (i + 1) xs
-drop_item xs i x e h = rw (add-one, drop-cons xs i x) (ap (λ y. y ∷ drop (suc i) xs) (sym e))
 
 -- none is gathered yet
 pub gathers_none : (l all : ℕ) → Gathers l all 0 all

@@ -5,7 +5,7 @@ use Rattle.xc_tree.specs.Trees.{item_of}
 use Rattle.xc_kernel.specs.Programs.{functions}
 use Rattle.xc_tree.proofs.Forms.{forms}
 use Rattle.std.proofs.lemmas.List.{map-append}
-use Rattle.xc_size.proofs.Gathers.{drop_item}
+use Rattle.xw_words.proofs.Lists.{drop_item}
 
 pub functions_step : (xs : List Item) (i : ℕ) (x : Item) → x ≡ get_or xs i x → i < length xs → functions (map item_of (drop i xs)) ≡ functions (item_of x ∷ map item_of (drop (i + 1) xs))
 functions_step xs i x e h = ap (λ ys. functions (map item_of ys)) (drop_item xs i x e h)

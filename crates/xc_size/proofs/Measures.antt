@@ -3,6 +3,7 @@ use Rattle.std.proofs.Common.{◌≡◌, ℕ, ◌+◌, ◌<◌, ◌≤◌, max, 
 use Rattle.std.proofs.lemmas.List.{drop_all}
 use Rattle.std.proofs.lemmas.List.Sums.{sum_by-cons}
 use Rattle.std.specs.Prelude.{sum_by}
+use Rattle.xw_words.proofs.Lists.{drop_item}
 use Rattle.xc_tree.specs.declared.tree.Stmt.{Stmt}
 use Rattle.xc_tree.specs.declared.tree.Branch.{Branch}
 use Rattle.xc_tree.specs.declared.tree.Case.{Case}
@@ -14,7 +15,6 @@ use Rattle.xc_kernel.specs.Counts as counts
 use Rattle.xc_kernel.specs.Nodes as nodes
 use Rattle.xc_kernel.specs.Depths as depths
 use Rattle.xc_size.proofs.UpTo.{up_to_none, up_to_again, up_to_left, up_to_right, up_to_max_left, up_to_max_right}
-use Rattle.xc_size.proofs.Gathers.{drop_item}
 
 pub sum_step : {A V : Type 0} (f : V → ℕ) (g : A → V) (xs : List A) (i : ℕ) (x : A) → x ≡ get_or xs i x → i < length xs → sum_by f (map g (drop i xs)) ≡ f (g x) + sum_by f (map g (drop (i + 1) xs))
 sum_step f g xs i x e h = ap (λ ys. sum_by f (map g ys)) (drop_item xs i x e h) ∙ sum_by-cons f (g x) (map g (drop (i + 1) xs))

@@ -4,9 +4,9 @@ use Rattle.std.specs.Prelude.{slice_get, bytes_eq, option_map}
 use Rattle.std.proofs.lemmas.List.{drop_all}
 use Rattle.std.proofs.lemmas.Option.{slice_get_within, get_or_from_slice_get, slice_get-map, slice_get-get_or}
 use Rattle.std.proofs.lemmas.Slice.Eq.{bytes_eq-Decides}
+use Rattle.xw_words.proofs.Lists.{drop_item, some_same}
 use Rattle.xc_kernel.specs.Programs.{Function, function_named, function_by}
 use Rattle.xc_size.specs.Functions.{function_at, AreNumbers}
-use Rattle.xc_size.proofs.Gathers.{drop_item}
 
 -- the numbers are those of the functions from the k-th on
 pub record NumbersFrom (number : List ℕ → Option ℕ) (fs : List Function) (k : ℕ) : Type 0 where
@@ -15,9 +15,6 @@ pub record NumbersFrom (number : List ℕ → Option ℕ) (fs : List Function) (
 
 clash : {A : Type 0} {B : Type 0} (x : A) → None ≡ Some x → B
 clash x e = absurd (cc)
-
-some_same : {A : Type 0} (a b : A) → Some a ≡ Some b → a ≡ b
-some_same a b e = cc
 
 pub numbers_none : (number : List ℕ → Option ℕ) (fs : List Function) (k : ℕ) → length fs ≤ k → ((name : List ℕ) → number name ≡ None) → NumbersFrom number fs k
 numbers_none number fs k h none = record {

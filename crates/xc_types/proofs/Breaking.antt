@@ -1,6 +1,7 @@
 -- The first of all that the sites of a program break is the first rule that the program breaks.
 use Rattle.std.proofs.Common.{◌≡◌, ℕ, ◌<◌, ◌⊎◌, inl, inr, zero, suc, List, [], ◌∷◌, ◌++◌, length, map, slice_index_or, Some, None, refl, sym, ap, subst, arith}
 use Rattle.std.specs.Prelude.{Contains}
+use Rattle.xw_words.proofs.Lists.{some_same}
 use Rattle.xw_words.specs.declared.pos.Pos.{Pos}
 use Rattle.xw_words.specs.declared.pos.Broken.{Broken}
 use Rattle.xc_tree.specs.Checks.{Rule, rules, Breaks}
@@ -10,7 +11,6 @@ use Rattle.xc_tree.specs.Types.Sites.{Site, sites}
 use Rattle.xc_tree.proofs.Leasts.{either, of_same, none_broken}
 use Rattle.xc_types.specs.Findings.{all_broken, broken_at, broken_of, first_among}
 use Rattle.xc_types.proofs.Firsts.{Itself, itself, first_from}
-use Rattle.xc_types.proofs.Lists.{some_same}
 
 -- it is one of these
 abbrev Among : List Broken → Broken → Type 0

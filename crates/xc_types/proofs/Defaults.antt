@@ -1,6 +1,7 @@
 -- The cases of a select, one at a time, for those that are `default`.
 use Rattle.std.proofs.Common.{◌≡◌, ℕ, ◌+◌, ◌<◌, ◌≤◌, Bool, true, false, List, ◌∷◌, length, drop, get_or, map, Some, None, refl, ap, ◌∙◌}
 use Rattle.std.proofs.lemmas.List.{drop_all}
+use Rattle.xw_words.proofs.Lists.{drop_item}
 use Rattle.xw_words.specs.declared.pos.Pos.{Pos}
 use Rattle.xc_tree.specs.declared.tree.Case.{Case, out-Case}
 use Rattle.xc_tree.specs.declared.tree.Head.{Head}
@@ -10,7 +11,6 @@ use Rattle.xc_tree.specs.Trees.{case_of}
 use Rattle.xc_tree.proofs.Forms.{case-Case}
 use Rattle.xc_types.specs.declared.findings.Findings.{Findings}
 use Rattle.xc_types.specs.Findings.{with_broken, with_broken_at}
-use Rattle.xc_types.proofs.Lists.{drop_item}
 
 -- the places of all, or of those behind the first
 abbrev pub behind_first : Bool → List Pos → List Pos

@@ -1,12 +1,13 @@
 -- The first of broken rules doesn't depend on their order.
 use Rattle.std.proofs.Common.{◌≡◌, ◌⊎◌, inl, inr, List, [], ◌∷◌, Option, None, Some, refl, sym, ap, subst, ◌∙◌, arith}
+use Rattle.std.proofs.lemmas.Option.{none-some}
+use Rattle.xw_words.proofs.Lists.{some_same}
 use Rattle.xw_words.specs.declared.pos.Pos.{Pos}
 use Rattle.xw_words.specs.declared.pos.Broken.{Broken}
 use Rattle.xc_tree.specs.Lexes.{IsBefore, IsNotAfter}
 use Rattle.xc_tree.specs.Least.{IsLeastOf, first_of}
 use Rattle.xc_tree.proofs.Leasts.{either, of_same, not_after_self}
 use Rattle.xc_types.specs.Findings.{first_among}
-use Rattle.xc_types.proofs.Lists.{some_same, none_clash}
 
 same_broken : (a b : Broken) → a.pos ≡ b.pos → a.rule ≡ b.rule → a ≡ b
 same_broken a b e f = λ i. record { rule = f i; pos = e i }
@@ -29,8 +30,8 @@ one_broken_rule a b (inr h) (inr k) = same_broken a b h.0 (let x = h.1 in let y 
 
 pub one_least : (P : Broken → Type 0) (a b : Option Broken) → IsLeastOf P a → IsLeastOf P b → a ≡ b
 one_least P None None p q = refl
-one_least P None (Some b) p q = let l = p.least b (q.among b refl) in absurd (none_clash l.0 l.1)
-one_least P (Some a) None p q = let l = q.least a (p.among a refl) in absurd (none_clash l.0 l.1)
+one_least P None (Some b) p q = let l = p.least b (q.among b refl) in absurd (none-some l.0 l.1)
+one_least P (Some a) None p q = let l = q.least a (p.among a refl) in absurd (none-some l.0 l.1)
 one_least P (Some a) (Some b) p q =
     let l = p.least b (q.among b refl) in
     let m = q.least a (p.among a refl) in

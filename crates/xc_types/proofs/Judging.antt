@@ -3,6 +3,7 @@ use Rattle.std.proofs.Common.{◌≡◌, ℕ, ◌+◌, ◌<◌, ◌≤◌, Bool,
 use Rattle.xw_words.specs.declared.pos.Pos.{Pos}
 use Rattle.xw_words.specs.declared.pos.Broken.{Broken}
 use Rattle.std.proofs.lemmas.List.{drop_all, length-map}
+use Rattle.xw_words.proofs.Lists.{drop_item}
 use Rattle.xc_tree.specs.declared.tree.Arg.{Arg}
 use Rattle.xc_tree.specs.declared.tree.FuncItem.{FuncItem}
 use Rattle.xc_tree.specs.declared.tree.Id.{Id}
@@ -29,7 +30,6 @@ use Rattle.xc_types.specs.Findings.{saw, all_broken, first_among, first_with, br
 use Rattle.xc_types.proofs.Firsts.{first_from, others_first}
 use Rattle.xc_types.proofs.Joins.{one, first_join, saw_join, saw_names, saw_nothing}
 use Rattle.xc_types.proofs.Steps.{saw_call, names_more}
-use Rattle.xc_types.proofs.Lists.{drop_item}
 
 -- one rule that is broken at some of these places
 first_one : (best : Option Broken) (t : Bool) (n : ℕ) (p : Pos) (ps : List Pos) →

@@ -1,4 +1,3 @@
-pub mod Lists
 pub mod Holders
 pub mod Joins
 pub mod Steps

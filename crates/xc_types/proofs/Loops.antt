@@ -1,6 +1,7 @@
 -- How what was found grows along the lists of a tree, one item at a time.
 use Rattle.std.proofs.Common.{◌≡◌, ℕ, ◌+◌, ◌<◌, ◌≤◌, List, ◌++◌, length, drop, get_or, map, sym, ap, ◌∙◌}
 use Rattle.std.proofs.lemmas.List.{drop_all}
+use Rattle.xw_words.proofs.Lists.{drop_item}
 use Rattle.xc_tree.specs.declared.tree.Branch.{Branch}
 use Rattle.xc_tree.specs.declared.tree.Case.{Case}
 use Rattle.xc_tree.specs.declared.tree.Declared.{Declared}
@@ -20,7 +21,6 @@ use Rattle.xc_types.specs.declared.findings.Findings.{Findings}
 use Rattle.xc_types.specs.Findings.{saw, one_more_name}
 use Rattle.xc_types.proofs.Joins.{saw_join, saw_names, saw_nothing}
 use Rattle.xc_types.proofs.Steps.{saw_declaration, names_more}
-use Rattle.xc_types.proofs.Lists.{drop_item}
 
 abbrev declared_by : Declared → Decl
 declared_by x = record { name = (declaration_of x).name; what = marks.what_of (declaration_of x).kind }

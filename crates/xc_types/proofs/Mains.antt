@@ -4,6 +4,8 @@ use Rattle.std.proofs.lemmas.Bool.Decides.{nat_tests}
 use Rattle.std.proofs.lemmas.List.{drop_all}
 use Rattle.std.specs.declared.boxed.Box.{Box}
 use Rattle.std.specs.declared.alloc.Global.{Global}
+use Rattle.std.proofs.lemmas.Option.{none-some}
+use Rattle.xw_words.proofs.Lists.{drop_item, some_same}
 use Rattle.xw_words.specs.declared.pos.Pos.{Pos}
 use Rattle.xc_tree.specs.declared.tree.Branch.{Branch}
 use Rattle.xc_tree.specs.declared.tree.Case.{Case}
@@ -22,7 +24,6 @@ use Rattle.xc_tree.proofs.Forms.{forms, statement-Stmt}
 use Rattle.xc_types.specs.declared.main_function.Part.{Part}
 use Rattle.xc_types.specs.declared.main_function.Part.TheVariants.{Channels, Par, Return, Other}
 use Rattle.xc_types.specs.Mains.{action_part, part_of, places, is_return_part}
-use Rattle.xc_types.proofs.Lists.{drop_item, some_same, none_clash}
 
 place_first : (s : plain.Statement) (ss : plain.Statements) → place_branches (plain.more s ss) ≡ (places (part_of s) || place_branches ss)
 place_first (plain.statement a p c own) ss = by a
@@ -101,14 +102,14 @@ return_left (plain.statement a p c own) = by a
     by _ = refl
 
 pub first_left : (xs : List Stmt) (x : Stmt) → slice_get xs 0 ≡ Some x → is_return_at_most (plain.statements (map statement_of xs)) ≡ (nat_eq (length xs) 1 && is_return_part (part_of (statement_of x)))
-first_left [] x e = absurd (none_clash x e)
+first_left [] x e = absurd (none-some x e)
 first_left (y ∷ []) x e = return_left (statement_of y) ∙ ap (λ (z : Stmt). is_return_part (part_of (statement_of z))) (some_same y x e)
 first_left (y ∷ (z ∷ zs)) x e =
     two_left (statement_of y) (statement_of z) (plain.statements (map statement_of zs)) ∙ sym (ap (λ b. b && is_return_part (part_of (statement_of x))) (above_one (length zs)))
 
 pub none_left : (xs : List Stmt) → slice_get xs 0 ≡ None → is_return_at_most (plain.statements (map statement_of xs)) ≡ true
 none_left [] e = refl
-none_left (x ∷ xs) e = absurd (none_clash x (sym e))
+none_left (x ∷ xs) e = absurd (none-some x (sym e))
 
 abbrev IsAlone : plain.Action → Type 0
 IsAlone a = (p q : Pos) (n : ℕ) → plain.more (plain.statement a p q n) plain.no_more ≡ statements_in (plain.statement a p q n)

@@ -1,8 +1,9 @@
 -- Each name of a typed program means what the stack of open scopes has for it.
-use Rattle.std.proofs.Common.{◌≡◌, ℕ, zero, suc, ◌+◌, ◌<◌, ◌≤◌, ◌⊎◌, inl, inr, Bool, true, false, List, [], ◌∷◌, ◌++◌, length, take, drop, slice_get, bytes_eq, Option, None, Some, refl, sym, ap, subst, ◌∙◌, true≢false, arith, append_assoc, length-append, add-zero}
+use Rattle.std.proofs.Common.{◌≡◌, ℕ, zero, suc, ◌+◌, ◌<◌, ◌≤◌, ◌⊎◌, inl, inr, Bool, true, false, List, [], ◌∷◌, ◌++◌, length, take, drop, slice_get, bytes_eq, Option, Some, refl, sym, ap, subst, ◌∙◌, true≢false, arith, append_assoc, length-append, add-zero}
 use Rattle.std.proofs.Math.Nat.{eq-or-lt_of_le}
-use Rattle.std.proofs.lemmas.Option.{slice_get_within}
+use Rattle.std.proofs.lemmas.Option.{slice_get_within, none-some}
 use Rattle.std.proofs.lemmas.Slice.Eq.{bytes_eq-Decides}
+use Rattle.xw_words.proofs.Lists.{some_same}
 use Rattle.xw_words.specs.declared.pos.Pos.{Pos}
 use Rattle.xc_tree.specs.declared.tree.Id.{Id}
 use Rattle.xc_tree.specs.declared.names.Decl.{Decl}
@@ -19,12 +20,6 @@ use Rattle.xc_wellformed.specs.Stacks.{declared_at, Frame, Stack, decl_by, found
 use Rattle.xc_meaning.proofs.Recursion.Scopes as scopes
 use Rattle.xc_meaning.proofs.Recursion.Scopes.{Inner, to_end_past}
 use Rattle.xc_meaning.proofs.Recursion.Uses.{past_both, one_further, numbered, Entry, below_or_at, at_end, longer, next}
-
-clash : {A : Type 0} (x : A) → None ≡ Some x → ⊥
-clash x e = cc
-
-some_same : {A : Type 0} (a b : A) → Some a ≡ Some b → a ≡ b
-some_same a b e = cc
 
 -- Marks that close so many scopes that were open before.
 abbrev Closing : ℕ → List Mark → Type 0
@@ -286,7 +281,7 @@ module _ (all : List Mark) where
           by false same r = r
 
       find : (st : Stack) (ends : ℕ → ℕ) (level : ℕ) (frame : Frame) → Levels v ends st → slice_get st level ≡ Some frame → Among means.declared.decl frame → end_of all d ≡ ends level → ((i : ℕ) → i < level → v < ends i) → ((i : ℕ) → i < level → ends i < ends level) → found st t ≡ Some means.declared.decl
-      find [] ends level frame h at_level a q open_still differ = absurd (clash frame at_level)
+      find [] ends level frame h at_level a q open_still differ = absurd (none-some frame at_level)
       find (f ∷ st) ends zero frame h at_level a q open_still differ = own_frame f (ends 0) (found st t) h.0 q (subst (Among means.declared.decl) (sym (some_same f frame at_level)) a)
       find (f ∷ st) ends (suc level) frame h at_level a q open_still differ =
           other_frame f (ends 0) (found st t) h.0 (open_still 0 (omega arith)) (let g = differ 0 (omega arith) in omega arith)
@@ -333,7 +328,7 @@ module _ (all : List Mark) where
     -- all that follows
     module _ (n : NamedProgram) (decls : n.decls ≡ declarations all) (each : (u : ℕ) (i : Id) → slice_get all u ≡ Some (Uses i) ⊎ slice_get all u ≡ Some (Calls i) → Entry all u i n.uses) where
       in_range : {A : Type 0} (xs : List A) (l : ℕ) (x : A) → slice_get xs l ≡ Some x → l < length xs
-      in_range [] l x e = absurd (clash x e)
+      in_range [] l x e = absurd (none-some x e)
       in_range (y ∷ xs) zero x e = omega arith
       in_range (y ∷ xs) (suc l) x e = let g = in_range xs l x e in omega arith
 
@@ -438,7 +433,7 @@ module _ (all : List Mark) where
 
     -- and all that is known in the whole text is declared there
     outer_has : (ms : List Mark) (v j d : ℕ) (x : Decl) → drop v all ≡ ms → v + length ms ≡ length all → Closing j ms → slice_get ms d ≡ Some (Declares x) → end_of all (v + d) ≡ length all → Among x (outer j ms)
-    outer_has [] v j d x e long c at_d ends = absurd (clash _ at_d)
+    outer_has [] v j d x e long c at_d ends = absurd (none-some _ at_d)
     outer_has (Opens ∷ ms) v j zero x e long c at_d ends = absurd (cc)
     outer_has (Opens ∷ ms) v j (suc d) x e long c at_d ends = outer_has ms (suc v) (suc j) d x (dropped all v Opens ms e).1 (shift_long v (length ms) (length all) long) c at_d (ap (end_of all) (next_place v d) ∙ ends)
     outer_has (Closes ∷ ms) v zero d x e long c at_d ends = absurd c

@@ -4,6 +4,7 @@ use Rattle.std.specs.Prelude.{cond, replicate}
 use Rattle.std.proofs.Math.ListN.{drop_of_length-le}
 use Rattle.std.proofs.lemmas.List.{length-map}
 use Rattle.std.proofs.lemmas.List.Sums.{sum_by-cons}
+use Rattle.xw_words.proofs.Lists.{drop_found}
 use Rattle.xc_kernel.specs.declared.kernel.Root.{Root}
 use Rattle.xc_kernel.specs.Kernels.{root_of}
 use Rattle.xc_kernel.specs.Plain as kernel
@@ -85,14 +86,9 @@ sided_there k core number r known here =
 
 -- The roots one after the other.
 
-drop_at : {A : Type 0} (xs : List A) (i : ℕ) (x : A) → slice_get xs i ≡ Some x → drop i xs ≡ x ∷ drop (i + 1) xs
-drop_at [] i x e = absurd (none_given e)
-drop_at (y ∷ xs) zero x e = ap (λ z. z ∷ xs) (some_given e)
-drop_at (y ∷ xs) (suc i) x e = drop_at xs i x e ∙ ap (λ n. x ∷ drop n (y ∷ xs)) (let z : suc (i + 1) ≡ suc i + 1 = omega arith in z)
-
 pub sided_from_here : (k : kernel.Kernel) (number : ℕ) (r : kernel.Root) → slice_get k.roots number ≡ Some r →
     drop number (sided_roots k) ≡ record { root = r; sides = root_sides k number } ∷ drop (number + 1) (sided_roots k)
-sided_from_here k number r known = drop_at (sided_roots k) number (record { root = r; sides = root_sides k number }) (sided_at k number r known)
+sided_from_here k number r known = drop_found (sided_roots k) number (record { root = r; sides = root_sides k number }) (sided_at k number r known)
 
 pub root_known : (rs : List Root) (i : ℕ) (x : Root) → x ≡ get_or rs i x → i < length rs → slice_get (map root_of rs) i ≡ Some (root_of x)
 root_known [] i x e lt = absurd (let z : ⊥ = omega (arith, lt) in z)

@@ -1,14 +1,14 @@
 -- The functions of a program, one behind the other.
 use Rattle.std.proofs.Common.{◌≡◌, ℕ, true, false, Option, Some, None, suc, zero, ◌+◌, ◌<◌, ◌≤◌, List, [], ◌∷◌, ◌++◌, length, drop, get_or, map, bytes_eq, arith, refl, ap, sym, subst, ◌∙◌}
-use Rattle.std.proofs.lemmas.List.{append-nil, append_assoc}
+use Rattle.std.proofs.lemmas.List.{append-nil, append_assoc, drop_all}
 use Rattle.std.specs.Borrow.{Bor}
 use Rattle.std.specs.List.{All}
+use Rattle.xw_words.proofs.Lists.{drop_item}
 use Rattle.xc_tree.specs.Plain as tree
 use Rattle.xc_tree.specs.Trees.{item_of}
 use Rattle.xc_tree.specs.declared.tree.Item.{Item}
 use Rattle.xc_tree.specs.declared.tree.FuncItem.{FuncItem}
 use Rattle.xc_kernel.specs.Programs.{Function, functions, function_named, function_by}
-use Rattle.xc_inline.proofs.Laws.Lists.{drop_item, drop_end}
 use Rattle.xc_tree.specs.Trees.{statement_of}
 use Rattle.xc_tree.specs.Heights.{height}
 use Rattle.xc_inline.specs.Functions.{HasFewParameters, function_of, functions_among, deepest}
@@ -33,7 +33,7 @@ functions_more items xs i x before same e h added so_far =
 
 pub functions_all : (items xs : List Item) (i : ℕ) (made : List Function) {whole : List Function} → xs ≡ items → length xs ≤ i → made ++ functions (map item_of (drop i items)) ≡ whole → made ≡ whole
 functions_all items xs i made same h so_far =
-    let none = ap (λ ys. functions (map item_of ys)) (drop_end items i (subst (λ (ys : List Item). length ys ≤ i) same h)) in
+    let none = ap (λ ys. functions (map item_of ys)) (drop_all i items (subst (λ (ys : List Item). length ys ≤ i) same h)) in
     sym (append-nil made) ∙ sym (ap (λ r. made ++ r) none) ∙ so_far
 
 -- the function at a place, or those behind it
@@ -82,4 +82,4 @@ module _ (fs xs : List (Bor FuncItem)) (i : ℕ) (f : Bor FuncItem) (same : xs �
 pub named_nowhere : (fs xs : List (Bor FuncItem)) (i : ℕ) (name : List ℕ) {found : Option Function} → xs ≡ fs → length xs ≤ i →
     found ≡ function_named (functions_among (drop i fs)) name → None ≡ found
 named_nowhere fs xs i name same h so_far =
-    sym (so_far ∙ ap (λ ys. function_named (functions_among ys) name) (drop_end fs i (subst (λ (ys : List (Bor FuncItem)). length ys ≤ i) same h)))
+    sym (so_far ∙ ap (λ ys. function_named (functions_among ys) name) (drop_all i fs (subst (λ (ys : List (Bor FuncItem)). length ys ≤ i) same h)))

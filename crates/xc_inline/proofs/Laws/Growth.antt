@@ -1,5 +1,6 @@
 -- The names that are known behind a copy are those before it, and new ones before them.
 use Rattle.std.proofs.Common.{◌≡◌, ℕ, zero, suc, ◌+◌, ◌-◌, ◌≤◌, Bool, true, false, List, [], ◌∷◌, ◌++◌, length, drop, Option, Some, None, nat_eq, arith, refl, ap, sym, subst, ◌∙◌, append_assoc, append-nil}
+use Rattle.xw_words.proofs.Lists.{drop_front}
 use Rattle.xw_words.specs.declared.pos.Pos.{Pos}
 use Rattle.xc_tree.specs.Plain as tree
 use Rattle.xc_tree.specs.Symbols.{equals}
@@ -23,10 +24,6 @@ with_one scope name e = record { more = record { name = name; entity = e } ∷ [
 
 pub further : {a b c : Scope} → Grows a b → Grows b c → Grows a c
 further {a} g h = record { more = h.more ++ g.more; is = h.is ∙ ap (λ x. h.more ++ x) g.is ∙ sym (append_assoc h.more g.more a) }
-
-drop_front : {X : Type 0} (xs ys : List X) → drop (length xs) (xs ++ ys) ≡ ys
-drop_front [] ys = refl
-drop_front (x ∷ xs) ys = drop_front xs ys
 
 length_both : {X : Type 0} (xs ys : List X) → length (xs ++ ys) ≡ length xs + length ys
 length_both [] ys = omega arith

@@ -1,6 +1,7 @@
 -- What is handed to the parameters of a function.
 use Rattle.std.proofs.Common.{◌≡◌, ℕ, zero, suc, ◌+◌, ◌-◌, ◌<◌, ◌≤◌, List, [], ◌∷◌, length, drop, get_or, map, min, arith, refl, ap, subst, sym, ◌∙◌}
 use Rattle.std.specs.Borrow.{Bor}
+use Rattle.xw_words.proofs.Lists.{drop_item}
 use Rattle.xc_tree.specs.declared.tree.Param.{Param}
 use Rattle.xc_tree.specs.declared.tree.Arg.{Arg}
 use Rattle.xc_tree.specs.Trees.{argument_of}
@@ -12,7 +13,6 @@ use Rattle.xc_kernel.specs.Parameters.{Passed, passed, and_passed, all_passed}
 use Rattle.xc_inline.specs.Contexts.{ports_from}
 use Rattle.xc_inline.specs.Handed.{IsPassed, passed_copy}
 use Rattle.xc_inline.specs.declared.parameters.Handed.{Handed}
-use Rattle.xc_inline.proofs.Laws.Lists.{drop_item}
 
 drop_whole : {X : Type 0} (xs : List X) → drop (length xs) xs ≡ []
 drop_whole [] = refl

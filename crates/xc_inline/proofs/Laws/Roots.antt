@@ -5,6 +5,8 @@ use Rattle.xc_tree.specs.declared.tree.Branch.{Branch}
 use Rattle.xc_tree.specs.declared.tree.Stmt.{Stmt}
 use Rattle.xc_tree.specs.Plain as tree
 use Rattle.std.specs.Prelude.{option_map, is_some}
+use Rattle.std.proofs.lemmas.List.{drop_all}
+use Rattle.xw_words.proofs.Lists.{drop_item}
 use Rattle.xc_tree.specs.declared.tree.At.{At}
 use Rattle.xc_tree.specs.Trees.{statement_of, action_of, branch_of, place_of}
 use Rattle.xc_tree.proofs.Forms.{statement-Stmt, branch-Branch}
@@ -17,7 +19,6 @@ use Rattle.xc_kernel.specs.Roots.{Rooted, no_roots, and_roots, roots_then, actio
 use Rattle.xc_kernel.specs.Scopes.{Scope, a_constant, with_name}
 use Rattle.xc_inline.proofs.Laws.Growth.{joined_assoc, joined_last, calls_keep, further, grown_left, statement_grows, with_one}
 use Rattle.xc_inline.specs.Growth.{Grows}
-use Rattle.xc_inline.proofs.Laws.Lists.{drop_item, drop_end}
 
 and_assoc : (a b c : Rooted) → and_roots (and_roots a b) c ≡ and_roots a (and_roots b c)
 and_assoc a b c = λ i. record { made = joined_assoc a.made b.made c.made i; roots = append_assoc a.roots b.roots c.roots i }
@@ -74,7 +75,7 @@ module _ (copies : CopiesCall) (main : Pos) where
       ∙ sym (ap (λ xs. roots_then before (block_roots copies main xs c)) here) ∙ whole
 
   pub block_done : (c : Context) (ss : List Stmt) (i : ℕ) (a : Rooted) → length ss ≤ i → roots_then a (block_roots copies main (tree.statements (map statement_of (drop i ss))) c) ≡ a
-  block_done c ss i a h = ap (λ xs. roots_then a (block_roots copies main (tree.statements (map statement_of xs)) c)) (drop_end ss i h) ∙ and_none a
+  block_done c ss i a h = ap (λ xs. roots_then a (block_roots copies main (tree.statements (map statement_of xs)) c)) (drop_all i ss h) ∙ and_none a
 
   -- the branch at a place, before those behind it
   pub branch_step : (c : Context) (bs : List Branch) (i : ℕ) (b : Branch) (before : Rooted) {after whole : Rooted} → b ≡ get_or bs i b → i < length bs →
@@ -86,7 +87,7 @@ module _ (copies : CopiesCall) (main : Pos) where
       ∙ sym (ap (λ xs. roots_then before (branch_roots copies main (tree.branches (map branch_of xs)) i c)) (drop_item bs i b e h)) ∙ whole
 
   pub branches_done : (c : Context) (bs : List Branch) (i : ℕ) (a : Rooted) → length bs ≤ i → roots_then a (branch_roots copies main (tree.branches (map branch_of (drop i bs))) i c) ≡ a
-  branches_done c bs i a h = ap (λ xs. roots_then a (branch_roots copies main (tree.branches (map branch_of xs)) i c)) (drop_end bs i h) ∙ and_none a
+  branches_done c bs i a h = ap (λ xs. roots_then a (branch_roots copies main (tree.branches (map branch_of xs)) i c)) (drop_all i bs h) ∙ and_none a
 
   -- the copy for one number, before those for the rest
   pub numbered_step : (b : tree.Branch) (name : List ℕ) (c : Context) (scope : Scope) (left count index number : ℕ) (before : Rooted) {after whole : Rooted} → left ≡ suc count →

@@ -1,5 +1,7 @@
 -- Loops over the pieces of a program: what has been copied, before the copy of the rest, is the copy of all.
 use Rattle.std.proofs.Common.{◌≡◌, ℕ, suc, ◌+◌, ◌-◌, ◌<◌, ◌≤◌, List, [], ◌∷◌, length, drop, get_or, map, arith, ap, sym, ◌∙◌}
+use Rattle.std.proofs.lemmas.List.{drop_all}
+use Rattle.xw_words.proofs.Lists.{drop_item}
 use Rattle.xw_words.specs.declared.pos.Pos.{Pos}
 use Rattle.xc_tree.specs.declared.tree.Branch.{Branch}
 use Rattle.xc_tree.specs.declared.tree.Case.{Case}
@@ -18,31 +20,30 @@ use Rattle.xc_inline.specs.declared.parts.Branched.{Branched}
 use Rattle.xc_inline.specs.declared.parts.Cased.{Cased}
 use Rattle.xc_inline.specs.Parts.{branched_before, cased_before}
 use Rattle.xc_inline.proofs.Laws.Growth.{behind, joined_last}
-use Rattle.xc_inline.proofs.Laws.Lists.{drop_item, drop_end}
 
 statements_at : (ss : List Stmt) (i : ℕ) (s : Stmt) → s ≡ get_or ss i s → i < length ss → tree.statements (map statement_of (drop i ss)) ≡ tree.more (statement_of s) (tree.statements (map statement_of (drop (i + 1) ss)))
 statements_at ss i s e h = ap (λ xs. tree.statements (map statement_of xs)) (drop_item ss i s e h)
 
 statements_end : (ss : List Stmt) (i : ℕ) → length ss ≤ i → tree.statements (map statement_of (drop i ss)) ≡ tree.no_more
-statements_end ss i h = ap (λ xs. tree.statements (map statement_of xs)) (drop_end ss i h)
+statements_end ss i h = ap (λ xs. tree.statements (map statement_of xs)) (drop_all i ss h)
 
 declarations_at : (ds : List Declared) (i : ℕ) (d : Declared) → d ≡ get_or ds i d → i < length ds → map declaration_of (drop i ds) ≡ declaration_of d ∷ map declaration_of (drop (i + 1) ds)
 declarations_at ds i d e h = ap (map declaration_of) (drop_item ds i d e h)
 
 declarations_end : (ds : List Declared) (i : ℕ) → length ds ≤ i → map declaration_of (drop i ds) ≡ []
-declarations_end ds i h = ap (map declaration_of) (drop_end ds i h)
+declarations_end ds i h = ap (map declaration_of) (drop_all i ds h)
 
 branches_at : (bs : List Branch) (i : ℕ) (b : Branch) → b ≡ get_or bs i b → i < length bs → tree.branches (map branch_of (drop i bs)) ≡ tree.more_branches (branch_of b) (tree.branches (map branch_of (drop (i + 1) bs)))
 branches_at bs i b e h = ap (λ xs. tree.branches (map branch_of xs)) (drop_item bs i b e h)
 
 branches_end : (bs : List Branch) (i : ℕ) → length bs ≤ i → tree.branches (map branch_of (drop i bs)) ≡ tree.no_branch
-branches_end bs i h = ap (λ xs. tree.branches (map branch_of xs)) (drop_end bs i h)
+branches_end bs i h = ap (λ xs. tree.branches (map branch_of xs)) (drop_all i bs h)
 
 cases_at : (cs : List Case) (i : ℕ) (x : Case) → x ≡ get_or cs i x → i < length cs → tree.cases (map case_of (drop i cs)) ≡ tree.more_cases (case_of x) (tree.cases (map case_of (drop (i + 1) cs)))
 cases_at cs i x e h = ap (λ xs. tree.cases (map case_of xs)) (drop_item cs i x e h)
 
 cases_end : (cs : List Case) (i : ℕ) → length cs ≤ i → tree.cases (map case_of (drop i cs)) ≡ tree.no_case
-cases_end cs i h = ap (λ xs. tree.cases (map case_of xs)) (drop_end cs i h)
+cases_end cs i h = ap (λ xs. tree.cases (map case_of xs)) (drop_all i cs h)
 
 module _ (copies : CopiesCall) (c : Context) where
   -- statements

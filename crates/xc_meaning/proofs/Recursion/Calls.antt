@@ -1,6 +1,8 @@
 -- A call in the body of a function, with the place of its mark and with its site.
-use Rattle.std.proofs.Common.{◌≡◌, ℕ, zero, suc, ◌+◌, ◌≤◌, Bool, true, false, List, [], ◌∷◌, ◌++◌, length, take, slice_get, Contains, is_some, None, Some, refl, sym, ap, subst, ◌∙◌, arith, append_assoc, length-append}
+use Rattle.std.proofs.Common.{◌≡◌, ℕ, zero, suc, ◌+◌, ◌≤◌, Bool, true, false, List, [], ◌∷◌, ◌++◌, length, take, slice_get, Contains, is_some, Some, refl, sym, ap, subst, ◌∙◌, arith, append_assoc, length-append}
 use Rattle.std.proofs.lemmas.List.Elements.{Contains-append_left, Contains-append_right}
+use Rattle.std.proofs.lemmas.Option.{none-some}
+use Rattle.xw_words.proofs.Lists.{some_same, at_front}
 use Rattle.xw_words.specs.declared.pos.Broken.{Broken}
 use Rattle.xc_tree.specs.declared.names.What.{What}
 use Rattle.xc_tree.specs.declared.names.What.TheVariants as what
@@ -16,15 +18,9 @@ use Rattle.xc_tree.specs.Types.Rules.{rule_404, broken_unless}
 use Rattle.xc_tree.specs.Shapes.Around.{Around, in_block_of}
 use Rattle.xc_tree.specs.Checks as checks
 use Rattle.xc_meaning.specs.Texts.Called.{EachCall}
-use Rattle.xc_meaning.proofs.Recursion.Items.{at_front, item_stands, item_next}
+use Rattle.xc_meaning.proofs.Recursion.Items.{item_stands, item_next}
 use Rattle.xc_meaning.proofs.Recursion.Uses.{past_both}
 use Rattle.xc_meaning.proofs.Recursion.Walk.{of_body}
-
-clash : {A : Type 0} (x : A) → None ≡ Some x → ⊥
-clash x e = cc
-
-some_same : {A : Type 0} (a b : A) → Some a ≡ Some b → a ≡ b
-some_same a b e = cc
 
 take_front : {A : Type 0} (xs ys : List A) → take (length xs) (xs ++ ys) ≡ xs
 take_front [] ys = refl
@@ -74,7 +70,7 @@ pub record IsCall (n : NamedProgram) (f : ℕ) (c : plain.Call) : Type 0 where
 
 -- what stands in the body of a function is among the sites of its program
 body_sites : (n : NamedProgram) (i k : ℕ) (is : List plain.Item) (j : ℕ) (h : plain.Head) (b : plain.Statement) → slice_get is j ≡ Some (plain.function h b) → (s : sites.Site) → Contains (sites.of_body n (in_block_of h) (past (past k (marks.of_items i (take j is)) + 1) (marks.each marks.of_param h.params)) b) s → Contains (sites.of_items n i k is) s
-body_sites n i k [] j h b e s c = absurd (clash _ e)
+body_sites n i k [] j h b e s c = absurd (none-some _ e)
 body_sites n i k (item ∷ is) zero h b e s c =
     let same : item ≡ plain.function h b = some_same item (plain.function h b) e in
     let own : Contains (sites.of_item n k (plain.function h b)) s = Contains-append_right (sites.function h b ∷ []) _ s (Contains-append_right (sites.each sites.of_parameter h.params) _ s c) in

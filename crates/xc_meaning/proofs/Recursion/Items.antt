@@ -1,6 +1,8 @@
 -- Where the functions of a program are declared, and which of them a called name means.
 use Rattle.std.proofs.Common.{◌≡◌, ℕ, zero, suc, ◌+◌, ◌<◌, ◌⊎◌, inl, inr, Bool, true, false, bytes_eq, List, [], ◌∷◌, ◌++◌, length, take, drop, slice_get, None, Some, refl, sym, ap, subst, ◌∙◌, arith, append_assoc, append-nil, length-append, add-zero}
 use Rattle.std.proofs.Math.Nat.{eq-or-lt_of_le}
+use Rattle.std.proofs.lemmas.Option.{none-some}
+use Rattle.xw_words.proofs.Lists.{at_front, drop_front, in_one, some_same}
 use Rattle.xc_tree.specs.declared.names.Decl.{Decl}
 use Rattle.xc_tree.specs.declared.names.What.TheVariants as what
 use Rattle.xc_tree.specs.declared.names.Mark.{Mark}
@@ -13,33 +15,9 @@ use Rattle.xc_tree.specs.Names.Calls.{first_of}
 use Rattle.xc_kernel.specs.Programs.{Function, functions, function_named, function_by}
 use Rattle.xc_meaning.proofs.Recursion.Scopes.{is_function, Inner, nothing, used, called, declared, scope, both, maybe, of_place, of_function, to_end_past}
 
-clash : {A : Type 0} (x : A) → None ≡ Some x → ⊥
-clash x e = cc
-
-some_same : {A : Type 0} (a b : A) → Some a ≡ Some b → a ≡ b
-some_same a b e = cc
-
--- what stands at a place of two lists stands in one of them
-pub in_one : {A : Type 0} (xs ys : List A) (u : ℕ) (x : A) → slice_get (xs ++ ys) u ≡ Some x → (slice_get xs u ≡ Some x) ⊎ ((v : ℕ) × (u ≡ length xs + v) × (slice_get ys v ≡ Some x))
-in_one [] ys u x h = inr (u, omega arith, h)
-in_one (y ∷ xs) ys zero x h = inl h
-in_one {A = A} (y ∷ xs) ys (suc u) x h = by (in_one xs ys u x h)
-  where
-    by : (slice_get xs u ≡ Some x) ⊎ ((v : ℕ) × (u ≡ length xs + v) × (slice_get ys v ≡ Some x)) → (slice_get (y ∷ xs) (suc u) ≡ Some x) ⊎ ((v : ℕ) × (suc u ≡ length (y ∷ xs) + v) × (slice_get ys v ≡ Some x))
-    by (inl e) = inl e
-    by (inr (v, e, g)) = inr (v, omega arith, g)
-
-pub at_front : {A : Type 0} (xs : List A) (x : A) (ys : List A) → slice_get (xs ++ x ∷ ys) (length xs) ≡ Some x
-at_front [] x ys = refl
-at_front (y ∷ xs) x ys = at_front xs x ys
-
-pub drop_front : {A : Type 0} (xs ys : List A) → drop (length xs) (xs ++ ys) ≡ ys
-drop_front [] ys = refl
-drop_front (x ∷ xs) ys = drop_front xs ys
-
 -- no function is declared inside one
 no_function : (ms : List Mark) → Inner ms → (u : ℕ) (d : Decl) → slice_get ms u ≡ Some (Declares d) → is_function d.what ≡ None
-no_function [] a u d e = absurd (clash _ e)
+no_function [] a u d e = absurd (none-some _ e)
 no_function (Uses n ∷ ms) a zero d e = absurd (cc)
 no_function (Uses n ∷ ms) (used a) (suc u) d e = no_function ms a u d e
 no_function (Calls n ∷ ms) a zero d e = absurd (cc)
@@ -76,7 +54,7 @@ items_end k (i ∷ is) =
 
 -- the marks of an item stand behind those of the items before
 pub item_stands : (k : ℕ) (is : List plain.Item) (j : ℕ) (item : plain.Item) → slice_get is j ≡ Some item → of_items k is ≡ of_items k (take j is) ++ (of_item (k + j) item ++ of_items (k + j + 1) (drop (suc j) is))
-item_stands k [] j item e = absurd (clash item e)
+item_stands k [] j item e = absurd (none-some item e)
 item_stands k (i ∷ is) zero item e =
     let g : i ≡ item = cc in
     ap (λ (x : plain.Item). of_item k x ++ of_items (k + 1) is) g ∙ ap (λ (n : ℕ). of_item n item ++ of_items (n + 1) is) (sym (add-zero k))
@@ -89,7 +67,7 @@ item_stands k (i ∷ is) (suc j) item e =
     place = omega arith
 
 pub item_next : (k : ℕ) (is : List plain.Item) (j : ℕ) (item : plain.Item) → slice_get is j ≡ Some item → of_items k (take (suc j) is) ≡ of_items k (take j is) ++ of_item (k + j) item
-item_next k [] j item e = absurd (clash item e)
+item_next k [] j item e = absurd (none-some item e)
 item_next k (i ∷ is) zero item e =
     let g : i ≡ item = cc in
     append-nil (of_item k i) ∙ ap (λ (x : plain.Item). of_item k x) g ∙ ap (λ (n : ℕ). of_item n item) (sym (add-zero k))
@@ -111,7 +89,7 @@ pub record Declared (k : ℕ) (is : List plain.Item) (d g : ℕ) : Type 0 where
   pub number : g ≡ k + item
 
 pub declared_at : (k : ℕ) (is : List plain.Item) (d : ℕ) (decl : Decl) (g : ℕ) → slice_get (of_items k is) d ≡ Some (Declares decl) → is_function decl.what ≡ Some g → Declared k is d g
-declared_at k [] d decl g e f = absurd (clash _ e)
+declared_at k [] d decl g e f = absurd (none-some _ e)
 declared_at k (i ∷ is) d decl g e f = by (in_one (of_item k i) (of_items (k + 1) is) d (Declares decl) e) (declared_at (k + 1) is)
   where
     declares_same : (a c : Decl) → Some (Declares a) ≡ Some (Declares c) → a ≡ c
@@ -123,9 +101,9 @@ declared_at k (i ∷ is) d decl g e f = by (in_one (of_item k i) (of_items (k + 
         sym (some_same k g same) ∙ sym (add-zero k)
 
     in_first : (i : plain.Item) (d : ℕ) → slice_get (of_item k i) d ≡ Some (Declares decl) → Declared k (i ∷ is) d g
-    in_first (plain.port p) d q = absurd (clash g (sym (no_function _ (port_inner k p) d decl q) ∙ f))
+    in_first (plain.port p) d q = absurd (none-some g (sym (no_function _ (port_inner k p) d decl q) ∙ f))
     in_first (plain.function h b) zero q = record { item = 0; head = h; body = b; there = refl; place = refl; number = own_number h q }
-    in_first (plain.function h b) (suc d) q = absurd (clash g (sym (no_function _ (of_function h b) d decl q) ∙ f))
+    in_first (plain.function h b) (suc d) q = absurd (none-some g (sym (no_function _ (of_function h b) d decl q) ∙ f))
 
     by : (slice_get (of_item k i) d ≡ Some (Declares decl)) ⊎ ((v : ℕ) × (d ≡ length (of_item k i) + v) × (slice_get (of_items (k + 1) is) v ≡ Some (Declares decl))) → ((v : ℕ) (x : Decl) (y : ℕ) → slice_get (of_items (k + 1) is) v ≡ Some (Declares x) → is_function x.what ≡ Some y → Declared (k + 1) is v y) → Declared k (i ∷ is) d g
     by (inl q) more = in_first i d q
@@ -190,7 +168,7 @@ pub record Named (P : List plain.Item) (t : List ℕ) (f : Function) : Type 0 wh
   pub spelled : bytes_eq f.head.name.text t ≡ true
 
 pub named : (P : List plain.Item) (t : List ℕ) (f : Function) → function_named (functions P) t ≡ Some f → Named P t f
-named [] t f e = absurd (clash f e)
+named [] t f e = absurd (none-some f e)
 named (plain.port p ∷ P) t f e = let a = named P t f e in record { item = suc a.item; there = a.there; spelled = a.spelled }
 named (plain.function h b ∷ P) t f e = by (bytes_eq h.name.text t) refl e (named P t)
   where

@@ -1,10 +1,8 @@
 -- The places of a program's functions, and lists of numbers without one of them.
-use Rattle.std.proofs.Common.{◌≡◌, ℕ, zero, suc, ◌+◌, List, [], ◌∷◌, length, slice_get, None, Some, refl, subst, arith}
+use Rattle.std.proofs.Common.{◌≡◌, ℕ, zero, suc, ◌+◌, List, [], ◌∷◌, length, slice_get, Some, refl, subst, arith}
+use Rattle.std.proofs.lemmas.Option.{none-some}
 use Rattle.xc_tree.specs.Plain as plain
 use Rattle.xc_kernel.specs.Programs.{functions}
-
-clash : {A : Type 0} (x : A) → None ≡ Some x → ⊥
-clash x e = cc
 
 -- a number that is in a list, and what is left without it
 pub data Member (x : ℕ) : List ℕ → Type 0 where
@@ -46,7 +44,7 @@ as_many k (plain.function h b ∷ is) = let e = as_many (k + 1) is in omega arit
 
 pub has_place : (k : ℕ) (is : List plain.Item) (j : ℕ) (h : plain.Head) (b : plain.Statement) → slice_get is j ≡ Some (plain.function h b) → Member (k + j) (places k is)
 unfolding places
-has_place k [] j h b e = absurd (clash _ e)
+has_place k [] j h b e = absurd (none-some _ e)
 has_place k (plain.port p ∷ is) zero h b e = absurd (cc)
 has_place k (plain.function x y ∷ is) zero h b e = subst (λ (n : ℕ). Member n (k ∷ places (k + 1) is)) (sum k) here
   where
