@@ -18,11 +18,10 @@ ghost use Rattle.xc_flat.specs.Ports.{names_among, names_of_ports};
 ghost use Rattle.xc_inline.specs.Roots.{numbering_by, rooted_by, rooted_of};
 
 use std::alloc::Global;
-use xc_inline::{
-    Functions, Numbers, Rooted, beside, both, core_outside, pos_of_place, roots_by_numbers,
-};
+use xc_inline::{Functions, Numbers, Rooted, core_outside, pos_of_place, roots_by_numbers};
 use xc_kernel::{Kernel, PortUse};
 use xc_tree::{FuncItem, Item, PortItem, Tree};
+use xw_words::allocation::{with_ok, zip_ok};
 use xw_words::{List, Memory, PORT_COUNT, Pos, identifier_place};
 
 /// The kernel of a program: the program with each call replaced by its function's body over instances of its own. The tree is
@@ -36,13 +35,13 @@ pub fn copy(alloc: Global, tree: &Tree) -> Result<Kernel, Memory>
 {
     let functions = Functions::of_tree(alloc, tree);
     let names = port_names(alloc, tree);
-    let (functions, names) = both(functions, names)?;
+    let (functions, names) = zip_ok(functions, names)?;
     let walked = walked(alloc, &functions, names.as_slice());
     drop(names);
     let main = main_pos(functions.main());
     drop(functions);
     let ports = port_uses(alloc, tree);
-    let ((numbers, rooted), ports) = both(walked, ports)?;
+    let ((numbers, rooted), ports) = zip_ok(walked, ports)?;
     Ok(kernel_by(numbers, rooted, ports, main))
 }
 
@@ -65,7 +64,7 @@ fn walked<'a>(
 {
     let numbers = numbered(alloc, functions, ports)?;
     let rooted = roots_by_numbers(alloc, functions, ports, &numbers);
-    beside(numbers, rooted)
+    with_ok(numbers, rooted)
 }
 
 /// The numbering of a program's instances, which a walk without one finds. The one error is as for `copy`.

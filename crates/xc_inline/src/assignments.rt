@@ -20,13 +20,13 @@ ghost use Rattle.xc_kernel.specs.Programs as programs;
 use crate::context::Context;
 use crate::copied::Copied;
 use crate::expressions::{Typed, place, updated, word};
-use crate::memory::both;
 use crate::paths::path_at;
 use crate::scope::Scope;
 use std::alloc::Global;
 use xc_kernel::{Kst, Kx, Place};
 use xc_tree::symbols::EQUALS;
 use xc_tree::{Expr, Rhs};
+use xw_words::allocation::zip_ok;
 use xw_words::{List, Memory, Pos};
 
 // Calls are copied at most `calls` deep.
@@ -121,7 +121,7 @@ impl<'p, 'a> Context<'p, 'a> {
     {
         let stored = updated(alloc, self.numbers, scope, to, symbol, pos, right);
         let place = place(alloc, self.numbers, scope, to);
-        let (place, stored) = both(place, stored)?;
+        let (place, stored) = zip_ok(place, stored)?;
         Copied::one_statement(alloc, Kst::Set(place, stored))
     }
 
@@ -285,7 +285,7 @@ impl<'p, 'a> Context<'p, 'a> {
     {
         let value = self.value(alloc, right, scope);
         let place = place(alloc, self.numbers, scope, to);
-        let (place, value) = both(place, value)?;
+        let (place, value) = zip_ok(place, value)?;
         Copied::one_statement(alloc, Kst::Set(place, value))
     }
 

@@ -12,13 +12,13 @@ ghost use Rattle.xc_inline.specs.Scopes.{scope_of};
 
 use crate::context::Context;
 use crate::copied::Copied;
-use crate::memory::beside;
 use crate::parts::Branched;
 use crate::paths::path_of_branch;
 use crate::scope::{Entity, Scope};
 use std::alloc::Global;
 use xc_tree::{Branch, Id};
 use xw_words::Memory;
+use xw_words::allocation::with_ok;
 
 // Calls are copied at most `calls` deep.
 impl<'p, 'a> Context<'p, 'a> {
@@ -39,7 +39,7 @@ impl<'p, 'a> Context<'p, 'a> {
         let mut branches = Branched::none(alloc);
         for (index, b) in bs.iter().enumerate() {
             let copied = self.branch(alloc, calls, index, b, scope);
-            let (before, copied) = beside(branches, copied)?;
+            let (before, copied) = with_ok(branches, copied)?;
             branches = before.and(alloc, b.body.pos, copied)?;
         }
         branches.as_par(alloc)
@@ -90,7 +90,7 @@ impl<'p, 'a> Context<'p, 'a> {
         let mut branches = Branched::none(alloc);
         for number in from..until {
             let copied = self.numbered(alloc, calls, name, number - from, number, b, scope);
-            let (before, copied) = beside(branches, copied)?;
+            let (before, copied) = with_ok(branches, copied)?;
             branches = before.and(alloc, b.body.pos, copied)?;
         }
         branches.as_par(alloc)

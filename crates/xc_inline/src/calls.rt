@@ -19,12 +19,12 @@ ghost use Rattle.xc_kernel.specs.Scopes.{Scope as Names};
 use crate::context::Context;
 use crate::copied::Copied;
 use crate::expressions::{place, word};
-use crate::memory::{beside, both};
 use crate::paths::path_at;
 use crate::scope::Scope;
 use std::alloc::Global;
 use xc_kernel::Inst;
 use xc_tree::{Arg, FuncItem};
+use xw_words::allocation::{with_ok, zip_ok};
 use xw_words::{Memory, Pos};
 
 // Calls are copied at most `calls` deep.
@@ -77,7 +77,7 @@ impl<'p, 'a> Context<'p, 'a> {
     {
         let result = path_at(alloc, own, function.name.pos);
         let entered = self.all_passed(alloc, scope, own, function.params.as_slice(), args);
-        let (result, mut entered) = both(result, entered)?;
+        let (result, mut entered) = zip_ok(result, entered)?;
         let body = (&*self)
             .in_function(own, result.as_slice())
             .statement(alloc, calls, &function.body, &mut entered.scope);
@@ -112,12 +112,12 @@ impl<'p, 'a> Context<'p, 'a> {
             function.now.name.pos behind function.now.result) (copies.joined
             (copy_of passed entered) (calls_spec.as_block (context_of self.now) own.now whole)))))) }
     {
-        let (passed, body) = beside(passed, body)?;
+        let (passed, body) = with_ok(passed, body)?;
         let block = self.as_block(alloc, own, body);
-        let (passed, block) = beside(passed, block)?;
+        let (passed, block) = with_ok(passed, block)?;
         let inside = passed.followed_by(block);
         let zeroed = self.zeroed_result(alloc, result_path, function);
-        let (zeroed, inside) = both(zeroed, inside)?;
+        let (zeroed, inside) = zip_ok(zeroed, inside)?;
         let behind = zeroed.followed_by(inside);
         let made = self.instance(alloc, function);
         let copied = Copied::joined(made, behind)?;
@@ -165,7 +165,7 @@ impl<'p, 'a> Context<'p, 'a> {
     {
         let variable = self.word_variable(alloc, false, path, pos)?;
         let zeroed = Copied::one_statement(alloc, self.set_zero(path));
-        let (variable, zeroed) = beside(variable, zeroed)?;
+        let (variable, zeroed) = with_ok(variable, zeroed)?;
         zeroed.and_variable(variable)
     }
 }

@@ -25,7 +25,6 @@ ghost use Rattle.xc_inline.specs.Cases.{case_by};
 use crate::context::Context;
 use crate::copied::Copied;
 use crate::expressions::word;
-use crate::memory::{after, beside, both};
 use crate::parts::Cased;
 use crate::paths::path_at;
 use crate::scope::Scope;
@@ -33,6 +32,7 @@ use crate::transfers::Received;
 use std::alloc::Global;
 use xc_kernel::Kx;
 use xc_tree::{Case, Expr};
+use xw_words::allocation::{then_ok, with_ok, zip_ok};
 use xw_words::{List, Memory, Pos};
 
 /// What comes of a case that receives before its body: its guard, if it has one, and its input.
@@ -63,7 +63,7 @@ impl<'p, 'a> Context<'p, 'a> {
         let mut cases = Cased::none(alloc);
         for case in cs {
             let added = self.case(alloc, calls, case, &mut cases, scope);
-            cases = after(added, cases)?;
+            cases = then_ok(added, cases)?;
             scope.leave(known);
         }
         cases.as_select(alloc, pos)
@@ -87,7 +87,7 @@ impl<'p, 'a> Context<'p, 'a> {
     {
         let path = path_at(alloc, self.path, case.pos);
         let opened = self.opened(alloc, case, scope);
-        let (path, opened) = both(path, opened)?;
+        let (path, opened) = zip_ok(path, opened)?;
         let body = (&*self)
             .in_case(path.as_slice())
             .statements(alloc, calls, case.body.as_slice(), scope);
@@ -119,7 +119,7 @@ impl<'p, 'a> Context<'p, 'a> {
             Some(head) => {
                 let guard = self.guard(alloc, &case.guard, scope);
                 let received = self.received(alloc, scope, head);
-                let (guard, received) = both(guard, received)?;
+                let (guard, received) = zip_ok(guard, received)?;
                 Ok(Some(Opened { guard, received }))
             }
         }
@@ -137,7 +137,7 @@ impl<'p, 'a> Context<'p, 'a> {
             IfOk body (λ b. copy_of b behind ≡ whole) → copy_of block behind
             ≡ calls_spec.as_block (context_of self.now) path whole) }
     {
-        let (path, body) = beside(path, body)?;
+        let (path, body) = with_ok(path, body)?;
         self.as_block(alloc, path.as_slice(), body)
     }
 
@@ -159,7 +159,7 @@ impl<'p, 'a> Context<'p, 'a> {
             (case_by opened between (calls_spec.as_block (context_of self.now) path whole) others)) }
     {
         let block = self.block_of(alloc, path, body);
-        let (opened, block) = beside(opened, block)?;
+        let (opened, block) = with_ok(opened, block)?;
         match opened {
             None => cases.add_default(alloc, block),
             Some(opened) => cases.add_case(alloc, opened.guard, opened.received, block),

@@ -6,11 +6,11 @@ ghost use Rattle.xc_kernel.specs.Flow.{first_of};
 ghost use Rattle.xc_kernel.specs.Kernels.{statement_of};
 ghost use Rattle.xc_inline.specs.Copied.{copy_of};
 
-use crate::memory::{after, append, beside, both, push_back, push_front};
 use std::alloc::Global;
 use std::collections::VecDeque;
 use std::mem;
 use xc_kernel::{Chan, Inst, Kst, Timer, Var};
+use xw_words::allocation::{append, push_back, push_front, then_ok, with_ok, zip_ok};
 use xw_words::{List, Memory};
 
 /// The copy of a piece of a program: its statements, and the instances that it makes in order of first sight.
@@ -59,7 +59,7 @@ impl Copied {
     {
         let mut copied = self;
         let added = push_back(&mut copied.code, statement);
-        after(added, copied)
+        then_ok(added, copied)
     }
 
     /// The instances of a copy, with one statement in place of its own. The one error is want of memory.
@@ -80,7 +80,7 @@ impl Copied {
     {
         let mut copied = self;
         let joined = copied.join(other);
-        after(joined, copied)
+        then_ok(joined, copied)
     }
 
     /// The copy followed by another, where that could be made. The one error is want of memory.
@@ -90,7 +90,7 @@ impl Copied {
             IfOk next (λ n. copy_of n after ≡ other) → copy_of both after
             ≡ spec.joined (copy_of self before) other) }
     {
-        let (first, next) = beside(self, next)?;
+        let (first, next) = with_ok(self, next)?;
         first.followed_by(next)
     }
 
@@ -104,7 +104,7 @@ impl Copied {
             IfOk first (λ f. copy_of f before ≡ one) → IfOk second (λ s. copy_of s after ≡ other) →
             copy_of both after ≡ spec.joined one other) }
     {
-        let (first, second) = both(first, second)?;
+        let (first, second) = zip_ok(first, second)?;
         first.followed_by(second)
     }
 
@@ -115,7 +115,7 @@ impl Copied {
     {
         let mut copied = self;
         let added = push_front(&mut copied.variables, variable);
-        after(added, copied)
+        then_ok(added, copied)
     }
 
     /// One more block, seen before the others. The one error is want of memory.
@@ -125,7 +125,7 @@ impl Copied {
     {
         let mut copied = self;
         let added = push_front(&mut copied.blocks, path);
-        after(added, copied)
+        then_ok(added, copied)
     }
 
     /// One more channel, behind the others. The one error is want of memory.
@@ -135,7 +135,7 @@ impl Copied {
     {
         let mut copied = self;
         let added = push_back(&mut copied.channels, channel);
-        after(added, copied)
+        then_ok(added, copied)
     }
 
     /// One more timer, behind the others. The one error is want of memory.
@@ -145,7 +145,7 @@ impl Copied {
     {
         let mut copied = self;
         let added = push_back(&mut copied.timers, timer);
-        after(added, copied)
+        then_ok(added, copied)
     }
 
     /// One more instance of a function, behind the others. The one error is want of memory.
@@ -156,7 +156,7 @@ impl Copied {
     {
         let mut copied = self;
         let added = push_back(&mut copied.instances, instance);
-        after(added, copied)
+        then_ok(added, copied)
     }
 
     /// Another copy behind this one, in place. The one error is want of memory.

@@ -15,12 +15,12 @@ ghost use Rattle.xc_inline.specs.Scopes.{scope_of};
 use crate::context::Context;
 use crate::copied::Copied;
 use crate::expressions::place;
-use crate::memory::{beside, both};
 use crate::paths::{path_at, same_path};
 use crate::scope::{Entity, Scope};
 use std::alloc::Global;
 use xc_kernel::{Chan, Timer};
 use xc_tree::{DeclKind, Declared, Rhs};
+use xw_words::allocation::{with_ok, zip_ok};
 use xw_words::{Memory, Pos};
 
 // Calls are copied at most `calls` deep.
@@ -121,7 +121,7 @@ impl<'p, 'a> Context<'p, 'a> {
         let path = path_at(alloc, self.path, pos)?;
         let zeroed = self.zeroed_array(alloc, words, path.as_slice(), pos);
         let declared = scope.declare(name, Entity::Array(path, words, unsigned));
-        let (_, copied) = both(declared, zeroed)?;
+        let (_, copied) = zip_ok(declared, zeroed)?;
         Ok(copied)
     }
 
@@ -140,7 +140,7 @@ impl<'p, 'a> Context<'p, 'a> {
     {
         let variable = self.array_variable(alloc, words, path, pos)?;
         let zeroed = Copied::one_statement(alloc, self.set_zero(path));
-        let (variable, zeroed) = beside(variable, zeroed)?;
+        let (variable, zeroed) = with_ok(variable, zeroed)?;
         zeroed.and_variable(variable)
     }
 
@@ -161,7 +161,7 @@ impl<'p, 'a> Context<'p, 'a> {
         let path = path_at(alloc, self.path, pos)?;
         let own = same_path(alloc, path.as_slice());
         let declared = scope.declare(name, Entity::Channel(path));
-        let (_, own) = both(declared, own)?;
+        let (_, own) = zip_ok(declared, own)?;
         Copied::nothing(alloc).and_channel(Chan {
             streaming,
             path: own,
@@ -185,7 +185,7 @@ impl<'p, 'a> Context<'p, 'a> {
         let path = path_at(alloc, self.path, pos)?;
         let own = same_path(alloc, path.as_slice());
         let declared = scope.declare(name, Entity::Timer(path));
-        let (_, own) = both(declared, own)?;
+        let (_, own) = zip_ok(declared, own)?;
         Copied::nothing(alloc).and_timer(Timer {
             core: self.core,
             path: own,

@@ -8,11 +8,11 @@ ghost use Rattle.xc_kernel.specs.Types as types;
 ghost use Rattle.xc_inline.specs.Numbers.{numbering_of};
 ghost use Rattle.xc_inline.specs.Scopes.{entity_found, entity_meant};
 
-use crate::memory::boxed;
 use crate::numbers::Numbers;
 use crate::scope::Entity;
 use std::alloc::Global;
 use xc_kernel::{KRes, Kx, Place};
+use xw_words::allocation::boxed;
 use xw_words::{Memory, Pos};
 
 /// The word that a name alone stands for. The one error is want of memory.

@@ -15,7 +15,6 @@ ghost use Rattle.xc_inline.specs.Scopes.{entity_found, scope_of};
 use crate::entities::{
     array_number, elements_are_unsigned, name_is_unsigned, place_of_name, word_of_name,
 };
-use crate::memory::{beside, both, boxed, one, three, two};
 use crate::numbers::Numbers;
 use crate::operators::{operation_is_unsigned, operator_of, result_is_unsigned, sign_is_unsigned};
 use crate::scope::{Entity, Scope};
@@ -23,6 +22,7 @@ use std::alloc::Global;
 use xc_kernel::{Kx, Place};
 use xc_tree::symbols::{BRACKET, QUESTION};
 use xc_tree::{Ex, Expr};
+use xw_words::allocation::{boxed, one, three, two, with_ok, zip_ok};
 use xw_words::{Memory, Pos};
 
 /// An expression of the kernel, and whether it is an `unsigned` word.
@@ -57,15 +57,15 @@ pub fn word(alloc: Global, numbers: &Numbers, scope: &Scope, e: &Expr) -> Result
         Ex::Bin(symbol, left, right) => {
             let left = word(alloc, numbers, scope, left);
             let right = word(alloc, numbers, scope, right);
-            let (left, right) = both(left, right)?;
+            let (left, right) = zip_ok(left, right)?;
             binary(alloc, *symbol, left, right, e.pos)
         }
         Ex::Cond(test, first, second) => {
             let test = word(alloc, numbers, scope, test);
             let first = word(alloc, numbers, scope, first);
             let second = word(alloc, numbers, scope, second);
-            let choices = both(first, second);
-            let (test, (first, second)) = both(test, choices)?;
+            let choices = zip_ok(first, second);
+            let (test, (first, second)) = zip_ok(test, choices)?;
             choice(alloc, test, first, second, e.pos)
         }
         Ex::Cast(unsigned, operand) => {
@@ -223,7 +223,7 @@ pub fn updated(
         (kernel.expression_of right.value)) }
 {
     let left = word(alloc, numbers, scope, to);
-    let (right, left) = beside(right, left)?;
+    let (right, left) = with_ok(right, left)?;
     let stored = binary(alloc, operator_of(symbol), left, right, pos)?;
     Ok(stored.value)
 }

@@ -15,11 +15,11 @@ ghost use Rattle.xc_inline.specs.Scopes.{scope_of};
 
 use crate::context::Context;
 use crate::copied::Copied;
-use crate::memory::{beside, both, one, two};
 use crate::paths::same_path;
 use crate::scope::Scope;
 use std::alloc::Global;
 use xc_kernel::{Kst, Kx};
+use xw_words::allocation::{one, two, with_ok, zip_ok};
 use xw_words::{List, Memory, Pos};
 
 impl<'p, 'a> Context<'p, 'a> {
@@ -45,7 +45,7 @@ impl<'p, 'a> Context<'p, 'a> {
         let code = copied.take_code(alloc);
         let whole = copied.and_statement(self.block_at(path, code));
         let own = same_path(alloc, path);
-        let (whole, own) = both(whole, own)?;
+        let (whole, own) = zip_ok(whole, own)?;
         whole.and_block(own)
     }
 
@@ -82,11 +82,11 @@ impl<'p, 'a> Context<'p, 'a> {
         let done = body.take_code(alloc);
         let round = self.round(alloc, paths.turn.as_slice(), test, done, last, followed);
         let made = next.followed_by(body);
-        let (round, made) = both(round, made)?;
+        let (round, made) = zip_ok(round, made)?;
         let looped = made.and_statement(self.block_at(paths.whole.as_slice(), round));
-        let (paths, looped) = beside(paths, looped)?;
+        let (paths, looped) = with_ok(paths, looped)?;
         let inner = looped.and_block(paths.turn);
-        let (whole, inner) = beside(paths.whole, inner)?;
+        let (whole, inner) = with_ok(paths.whole, inner)?;
         inner.and_block(whole)
     }
 
@@ -108,7 +108,7 @@ impl<'p, 'a> Context<'p, 'a> {
             (plain.statements (map kernel.statement_of followed)) ∷ []) }
     {
         let turn = self.turn(alloc, path, body, last);
-        let ((test, followed), turn) = beside((test, followed), turn)?;
+        let ((test, followed), turn) = with_ok((test, followed), turn)?;
         one(alloc, Kst::Loop(test, turn, followed))
     }
 
@@ -147,7 +147,7 @@ impl<'p, 'a> Context<'p, 'a> {
             ≡ spec.leave_unless (context_of self.now) path.now (kernel.expression_of test)) }
     {
         let left = one(alloc, self.leave(path));
-        let (test, left) = beside(test, left)?;
+        let (test, left) = with_ok(test, left)?;
         Ok(Kst::If(test, List::new(alloc), left))
     }
 }
@@ -172,12 +172,12 @@ pub fn if_copy(
         IfOk second (λ s. copy_of s behind ≡ other) → copy_of copied behind
         ≡ spec.if_copy (kernel.expression_of test) (copy_of first between) other) }
 {
-    let ((test, first), second) = beside((test, first), second)?;
+    let ((test, first), second) = with_ok((test, first), second)?;
     let mut first = first;
     let mut second = second;
     let then = first.take_code(alloc);
     let otherwise = second.take_code(alloc);
     let made = first.followed_by(second);
-    let (test, made) = beside(test, made)?;
+    let (test, made) = with_ok(test, made)?;
     made.and_statement(Kst::If(test, then, otherwise))
 }

@@ -16,7 +16,6 @@ mod expressions;
 mod flow;
 pub mod functions;
 mod loops;
-pub mod memory;
 mod numbering;
 pub mod numbers;
 mod operators;
@@ -31,6 +30,5 @@ mod transfers;
 mod variables;
 
 pub use functions::Functions;
-pub use memory::{beside, both};
 pub use numbers::Numbers;
 pub use roots::{Rooted, core_outside, pos_of_place, roots_by_numbers};

@@ -22,12 +22,12 @@ use crate::context::Context;
 use crate::copied::Copied;
 use crate::expressions::{place, word};
 use crate::flow::LoopPaths;
-use crate::memory::{beside, both};
 use crate::paths::{path_at, path_of_turn};
 use crate::scope::Scope;
 use std::alloc::Global;
 use xc_kernel::Kx;
 use xc_tree::{Expr, Stmt};
+use xw_words::allocation::{with_ok, zip_ok};
 use xw_words::{Memory, Pos};
 
 // Calls are copied at most `calls` deep.
@@ -52,7 +52,7 @@ impl<'p, 'a> Context<'p, 'a> {
     {
         let paths = self.loop_paths(alloc, pos);
         let test = word(alloc, self.numbers, scope, test);
-        let (paths, test) = both(paths, test)?;
+        let (paths, test) = zip_ok(paths, test)?;
         let body = (&*self)
             .in_loop(paths.whole.as_slice(), paths.turn.as_slice())
             .statement(alloc, calls, body, scope);
@@ -136,9 +136,9 @@ impl<'p, 'a> Context<'p, 'a> {
         let known = scope.len();
         let paths = self.loop_paths(alloc, pos);
         let test = self.test_or_true(alloc, test, scope);
-        let (paths, test) = both(paths, test)?;
+        let (paths, test) = zip_ok(paths, test)?;
         let next = self.maybe(alloc, calls, next, scope);
-        let ((paths, test), next) = beside((paths, test), next)?;
+        let ((paths, test), next) = with_ok((paths, test), next)?;
         scope.leave(known);
         let body = (&*self)
             .in_loop(paths.whole.as_slice(), paths.turn.as_slice())
@@ -164,7 +164,7 @@ impl<'p, 'a> Context<'p, 'a> {
             (flow.turn (context_of self.now) paths.whole done.code [])
             (copies.code_of (copy_of next between)) (copies.joined (copy_of next between) done)) }
     {
-        let (((paths, test), next), body) = beside(((paths, test), next), body)?;
+        let (((paths, test), next), body) = with_ok(((paths, test), next), body)?;
         self.loop_at(alloc, paths, test, next, body, None)
     }
 
@@ -187,10 +187,10 @@ impl<'p, 'a> Context<'p, 'a> {
             done.scope (tree.expression_of test.now)) ∷ [])) kernel_plain.no_more done) }
     {
         let test = word(alloc, self.numbers, scope, test);
-        let ends = both(body, test);
-        let (paths, (body, test)) = beside(paths, ends)?;
+        let ends = zip_ok(body, test);
+        let (paths, (body, test)) = with_ok(paths, ends)?;
         let last = self.leave_unless(alloc, paths.whole.as_slice(), test.value);
-        let ((paths, body), last) = beside((paths, body), last)?;
+        let ((paths, body), last) = with_ok((paths, body), last)?;
         let next = Copied::nothing(alloc);
         self.loop_at(alloc, paths, Kx::Num(1), next, body, Some(last))
     }

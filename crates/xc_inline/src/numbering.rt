@@ -7,11 +7,11 @@ ghost use Rattle.xc_inline.specs.Instances.{instance_count};
 ghost use Rattle.xc_inline.specs.Numbers.{numbering_of};
 
 use crate::copied::Copied;
-use crate::memory::both;
 use crate::numbers::{Numbers, each_once, place};
 use indexmap::IndexSet;
 use std::alloc::Global;
 use xc_kernel::{Chan, Timer, Var};
+use xw_words::allocation::zip_ok;
 use xw_words::{List, Memory};
 
 impl Numbers {
@@ -41,9 +41,9 @@ impl Numbers {
         let channels = each_once(alloc, copied.channels);
         let timers = each_once(alloc, copied.timers);
         let blocks = each_once(alloc, copied.blocks);
-        let seen = both(variables, channels);
-        let others = both(timers, blocks);
-        let ((variables, channels), (timers, blocks)) = both(seen, others)?;
+        let seen = zip_ok(variables, channels);
+        let others = zip_ok(timers, blocks);
+        let ((variables, channels), (timers, blocks)) = zip_ok(seen, others)?;
         Ok(Numbers {
             variables: variables.items,
             channels: channels.items,

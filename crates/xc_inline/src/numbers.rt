@@ -4,11 +4,11 @@ ghost use Rattle.xc_kernel.specs.Paths as spec_paths;
 ghost use Rattle.xc_kernel.specs.Paths.{Path, place_of_path, has_path, with_new};
 ghost use Rattle.xc_inline.specs.PathSets.{itself, paths_in};
 
-use crate::memory::{after, push};
 use indexmap::IndexSet;
 use std::alloc::Global;
 use std::collections::VecDeque;
 use xc_kernel::{Chan, Timer, Var};
+use xw_words::allocation::{push, then_ok};
 use xw_words::{List, Memory};
 
 /// What has a path.
@@ -72,7 +72,7 @@ pub fn each_once<T: HasPath + Drop>(alloc: Global, seen: VecDeque<T>) -> Result<
         paths: IndexSet::new(alloc),
     };
     let kept = keep_all(alloc, &mut once, seen);
-    after(kept, once)
+    then_ok(kept, once)
 }
 
 /// Keeps each instance whose path is new. The one error is want of memory.

@@ -15,12 +15,12 @@ ghost use Rattle.xc_inline.specs.Scopes.{entity_found, entity_meant, scope_of};
 use crate::context::Context;
 use crate::copied::Copied;
 use crate::expressions::{index_test, word};
-use crate::memory::{after, beside, both};
 use crate::paths::path_at;
 use crate::scope::{Entity, Scope};
 use std::alloc::Global;
 use xc_kernel::Kx;
 use xc_tree::{Arg, Ex, Expr, Param, ParamKind};
+use xw_words::allocation::{then_ok, with_ok, zip_ok};
 use xw_words::{Memory, Pos};
 
 /// What a call stores for a parameter and the parameter's variable, and what its name then stands for.
@@ -64,8 +64,8 @@ impl<'a> Entered<'a> {
         } = handed;
         let declared = scope.declare(name, entity);
         let copied = first.followed_by(copied);
-        let scope = after(declared, scope);
-        let (copied, scope) = both(copied, scope)?;
+        let scope = then_ok(declared, scope);
+        let (copied, scope) = zip_ok(copied, scope)?;
         Ok(Entered { copied, scope })
     }
 }
@@ -108,7 +108,7 @@ impl<'p, 'a> Context<'p, 'a> {
             left -= 1;
             let param = &params[left];
             let handed = self.passed(alloc, scope, own, param, &args[left].value);
-            let (others, handed) = beside(entered, handed)?;
+            let (others, handed) = with_ok(entered, handed)?;
             entered = others.behind(param.name.text.as_slice(), handed)?;
         }
         Ok(entered)
@@ -154,9 +154,9 @@ impl<'p, 'a> Context<'p, 'a> {
     {
         let path = path_at(alloc, own, pos);
         let value = word(alloc, self.numbers, scope, argument);
-        let (path, value) = both(path, value)?;
+        let (path, value) = zip_ok(path, value)?;
         let copied = self.stored(alloc, path.as_slice(), pos, value.value);
-        let (path, copied) = beside(path, copied)?;
+        let (path, copied) = with_ok(path, copied)?;
         Ok(Handed {
             copied,
             entity: Entity::Word(path, unsigned),
@@ -208,11 +208,11 @@ impl<'p, 'a> Context<'p, 'a> {
             Entity::Array(path, words, unsigned) => {
                 let array = path.copy(alloc);
                 let own = path_at(alloc, own, pos);
-                let paths = both(array, own);
+                let paths = zip_ok(array, own);
                 let test = self.tested(alloc, scope, index, *words, array_pos);
-                let ((array, own), test) = both(paths, test)?;
+                let ((array, own), test) = zip_ok(paths, test)?;
                 let copied = self.stored(alloc, own.as_slice(), pos, test);
-                let ((array, own), copied) = beside((array, own), copied)?;
+                let ((array, own), copied) = with_ok((array, own), copied)?;
                 Ok(Handed {
                     copied,
                     entity: Entity::Element(array, own, *unsigned),
@@ -250,7 +250,7 @@ impl<'p, 'a> Context<'p, 'a> {
     {
         let stored = Copied::one_statement(alloc, self.set_word(path, value));
         let variable = self.word_variable(alloc, false, path, pos);
-        let (stored, variable) = both(stored, variable)?;
+        let (stored, variable) = zip_ok(stored, variable)?;
         stored.and_variable(variable)
     }
 }

@@ -8,11 +8,11 @@ ghost use Rattle.xc_inline.specs.Copied.{copy_of};
 ghost use Rattle.xc_inline.specs.Parts.{branched_before, cased_before, default_before};
 
 use crate::copied::Copied;
-use crate::memory::both;
 use crate::transfers::Received;
 use std::alloc::Global;
 use std::mem;
 use xc_kernel::{KBranch, KCase, KSelect, Kst, Kx};
+use xw_words::allocation::zip_ok;
 use xw_words::{List, Memory, Pos};
 
 /// The instances of some branches, and the branches.
@@ -44,7 +44,7 @@ impl Branched {
         let body = copied.take_code(alloc);
         let pushed = branches.push(KBranch { body, pos });
         let joined = made.followed_by(copied);
-        let (_, made) = both(pushed, joined)?;
+        let (_, made) = zip_ok(pushed, joined)?;
         Ok(Branched { made, branches })
     }
 
@@ -105,7 +105,7 @@ impl Cased {
         let Received { head, names } = received;
         let pushed = self.cases.push(KCase { guard, head, body });
         let inside = names.followed_by(block);
-        let (_, inside) = both(pushed, inside)?;
+        let (_, inside) = zip_ok(pushed, inside)?;
         self.made.join(inside)
     }
 

@@ -21,13 +21,13 @@ use crate::copied::Copied;
 use crate::eval::eval;
 use crate::expressions::word;
 use crate::functions::Functions;
-use crate::memory::after;
 use crate::numbers::Numbers;
 use crate::paths::path_of_branch;
 use crate::scope::{Entity, Scope};
 use std::alloc::Global;
 use xc_kernel::Root;
 use xc_tree::{Arg, At, Branch, FuncItem, Id, St, Stmt};
+use xw_words::allocation::then_ok;
 use xw_words::{List, Memory, Pos};
 
 /// The greatest number of a core.
@@ -79,7 +79,7 @@ impl Rooted {
         let mut copied = copied;
         let body = copied.take_code(alloc);
         let joined = self.made.join(copied);
-        let body = after(joined, body)?;
+        let body = then_ok(joined, body)?;
         self.roots.push(Root {
             core,
             place,
@@ -175,7 +175,7 @@ impl<'p, 'a> Context<'p, 'a> {
         let copied = made?;
         let mut root = Rooted::none(alloc);
         let added = root.add_root(alloc, 0, main.name.pos, main.name.pos, copied);
-        after(added, root)
+        then_ok(added, root)
     }
 
     /// Where a branch of main's is placed: main's instance and its branches. The one error is as for `roots`.
@@ -213,11 +213,11 @@ impl<'p, 'a> Context<'p, 'a> {
         let instance = self.instance(alloc, main)?;
         let mut begun = Rooted::none(alloc);
         let added = begun.add_copy(alloc, instance);
-        let mut rooted = after(added, begun)?;
+        let mut rooted = then_ok(added, begun)?;
         let block = in_block(&main.body);
         for s in block {
             let more = self.statement_roots(alloc, calls, main.name.pos, s, &mut rooted, scope);
-            rooted = after(more, rooted)?;
+            rooted = then_ok(more, rooted)?;
         }
         Ok(rooted)
     }
@@ -300,7 +300,7 @@ impl<'p, 'a> Context<'p, 'a> {
         for number in from..until {
             let path = path_of_branch(alloc, self.path, (number - from) as usize)?;
             let declared = scope.declare(name.text.as_slice(), Entity::Constant(number));
-            let path = after(declared, path)?;
+            let path = then_ok(declared, path)?;
             let added = (&*self)
                 .in_branch(path.as_slice())
                 .branch_root(alloc, calls, main, b, rooted, scope);

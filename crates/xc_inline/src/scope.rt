@@ -2,8 +2,8 @@ ghost use Rattle.std.specs.Prelude.{◌≡◌, ◌<◌, ◌≤◌, ◌-◌, [], 
 ghost use Rattle.xc_kernel.specs.Scopes as spec;
 ghost use Rattle.xc_inline.specs.Scopes.{entity_meant, entity_found, scope_of};
 
-use crate::memory::{both, push};
 use std::alloc::Global;
+use xw_words::allocation::{push, zip_ok};
 use xw_words::{List, Memory};
 
 /// What a name stands for; instances are meant by their paths.
@@ -37,7 +37,7 @@ impl Entity {
                 Ok(Entity::Array(path.copy(alloc)?, *words, *unsigned))
             }
             Entity::Element(array, index, unsigned) => {
-                let (array, index) = both(array.copy(alloc), index.copy(alloc))?;
+                let (array, index) = zip_ok(array.copy(alloc), index.copy(alloc))?;
                 Ok(Entity::Element(array, index, *unsigned))
             }
             Entity::Channel(path) => Ok(Entity::Channel(path.copy(alloc)?)),

@@ -15,11 +15,11 @@ use crate::context::Context;
 use crate::copied::Copied;
 use crate::expressions::word;
 use crate::flow::if_copy;
-use crate::memory::beside;
 use crate::scope::Scope;
 use std::alloc::Global;
 use xc_kernel::Kst;
 use xc_tree::{Expr, St, Stmt};
+use xw_words::allocation::with_ok;
 use xw_words::{Memory, Pos};
 
 // Calls are copied at most `calls` deep.
@@ -153,7 +153,7 @@ impl<'p, 'a> Context<'p, 'a> {
     {
         let test = word(alloc, self.numbers, scope, test)?;
         let first = self.statement(alloc, calls, first, scope);
-        let (test, first) = beside(test, first)?;
+        let (test, first) = with_ok(test, first)?;
         let second = self.maybe(alloc, calls, second, scope);
         if_copy(alloc, test.value, first, second)
     }

@@ -15,13 +15,13 @@ use crate::context::Context;
 use crate::copied::Copied;
 use crate::entities::resource;
 use crate::expressions::{place, word};
-use crate::memory::{after, beside, both, push_back};
 use crate::paths::path_at;
 use crate::scope::{Entity, Scope};
 use std::alloc::Global;
 use std::collections::VecDeque;
 use xc_kernel::{KHead, KOut, Kst, Kx, Place};
 use xc_tree::{Dest, Head, Send, Timed, When};
+use xw_words::allocation::{push_back, then_ok, with_ok, zip_ok};
 use xw_words::{List, Memory, Pos};
 
 /// An input of the kernel, and the copy of what it declares and names, without its statement.
@@ -62,8 +62,8 @@ impl<'p, 'a> Context<'p, 'a> {
         let time = self.time(alloc, scope, &o.time);
         let value = word(alloc, self.numbers, scope, &o.value);
         let stamp = self.stamp(alloc, scope, &o.stamp);
-        let stamped = both(value, stamp);
-        let (time, (value, stamp)) = both(time, stamped)?;
+        let stamped = zip_ok(value, stamp);
+        let (time, (value, stamp)) = zip_ok(time, stamped)?;
         Ok(KOut {
             res,
             time,
@@ -104,10 +104,10 @@ impl<'p, 'a> Context<'p, 'a> {
         let cond = self.condition(alloc, scope, &i.cond);
         let target = self.target(alloc, scope, &i.dest);
         let stamp = self.stamp(alloc, scope, &i.stamp);
-        let waits = both(time, cond);
-        let ends = both(target, stamp);
-        let parts = both(waits, ends);
-        let (named, ((time, cond), (target, stamp))) = both(named, parts)?;
+        let waits = zip_ok(time, cond);
+        let ends = zip_ok(target, stamp);
+        let parts = zip_ok(waits, ends);
+        let (named, ((time, cond), (target, stamp))) = zip_ok(named, parts)?;
         let head = KHead {
             res,
             time,
@@ -117,7 +117,7 @@ impl<'p, 'a> Context<'p, 'a> {
             pos: i.pos,
         };
         let names = named.followed_by(target.names);
-        let (head, names) = beside(head, names)?;
+        let (head, names) = with_ok(head, names)?;
         Ok(Received { head, names })
     }
 
@@ -225,7 +225,7 @@ impl<'p, 'a> Context<'p, 'a> {
         let path = path_at(alloc, self.path, pos)?;
         let variable = self.word_variable(alloc, true, path.as_slice(), pos);
         let declared = scope.declare(name, Entity::Word(path, unsigned));
-        let (_, variable) = both(declared, variable)?;
+        let (_, variable) = zip_ok(declared, variable)?;
         Copied::nothing(alloc).and_variable(variable)
     }
 }
@@ -272,5 +272,5 @@ fn one_path(alloc: Global, path: &List<u32>) -> Result<VecDeque<List<u32>>, Memo
     let own = path.copy(alloc)?;
     let mut paths = VecDeque::new(alloc);
     let pushed = push_back(&mut paths, own);
-    after(pushed, paths)
+    then_ok(pushed, paths)
 }

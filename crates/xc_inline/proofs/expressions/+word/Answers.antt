@@ -91,8 +91,8 @@ returns-in_ok-test-in-Cond-clause-value t c = given_on c.choice.result c.choice.
     let scope = scope_of c.args.scope.now in
     let n = numbering_of c.args.numbers.now in
     let both = c.in_ok-test-in-Cond.ensures in
-    let first = rw both.second at c.both-choices.ensures.first in
-    let second = rw both.second at c.both-choices.ensures.second in
+    let first = rw both.second at c.zip_ok-choices.ensures.first in
+    let second = rw both.second at c.zip_ok-choices.ensures.second in
     let test = (rw both.first at c.word-test.ensures.value) ∙ ap (λ b. spec.expression_in n scope (expression_of b)) c.deref-in-Cond.ensures in
     let a = (rw first at c.word-first.ensures.value) ∙ ap (λ b. spec.expression_in n scope (expression_of b)) c.deref-in-Cond-2.ensures in
     let b = (rw second at c.word-second.ensures.value) ∙ ap (λ b. spec.expression_in n scope (expression_of b)) c.deref-in-Cond-3.ensures in
@@ -105,8 +105,8 @@ pub returns-in_ok-test-in-Cond-clause-unsigned : goal.returns-in_ok-test-in-Cond
 returns-in_ok-test-in-Cond-clause-unsigned t c = given_on c.choice.result c.choice.ensures.unsigned (λ _ h.
     let scope = scope_of c.args.scope.now in
     let both = c.in_ok-test-in-Cond.ensures in
-    let first = rw both.second at c.both-choices.ensures.first in
-    let second = rw both.second at c.both-choices.ensures.second in
+    let first = rw both.second at c.zip_ok-choices.ensures.first in
+    let second = rw both.second at c.zip_ok-choices.ensures.second in
     let u = (rw first at c.word-first.ensures.unsigned) ∙ ap (λ b. scopes.is_unsigned scope (expression_of b)) c.deref-in-Cond-2.ensures in
     let v = (rw second at c.word-second.ensures.unsigned) ∙ ap (λ b. scopes.is_unsigned scope (expression_of b)) c.deref-in-Cond-3.ensures in
     sign_by_form scope c.args.e.now c.in-Cond.is (form-Cond c.in-Cond.test c.in-Cond.first c.in-Cond.second) (h ∙ λ i. u i || v i))

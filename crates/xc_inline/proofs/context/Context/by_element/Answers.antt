@@ -13,7 +13,7 @@ use Rattle.xc_inline.proofs.context.Context.by_element.Goals as goal
 pub returns-in_ok-array-in-Array-2 : goal.returns-in_ok-array-in-Array-2
 returns-in_ok-array-in-Array-2 c =
     let here = context_of c.args.self.now in
-    let both = rw c.in_ok-array-in-Array.ensures.first at c.both-paths.ensures in
+    let both = rw c.in_ok-array-in-Array.ensures.first at c.zip_ok-paths.ensures in
     let array = rw both.first at c.copy-array.ensures in
     let own = rw both.second at c.path_at-own.ensures in
     let test = rw c.in_ok-array-in-Array.ensures.second at c.tested-test.ensures in

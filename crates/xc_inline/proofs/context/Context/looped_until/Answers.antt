@@ -20,7 +20,7 @@ pub returns : goal.returns
 returns c = given_on c.loop_at.result c.loop_at.ensures (λ _ h. λ done is.
     let here = context_of c.args.self.now in
     let behind = scope_of c.args.scope.now in
-    let ends = rw c.in_ok-paths.ensures.made at c.both-ends.ensures in
+    let ends = rw c.in_ok-paths.ensures.made at c.zip_ok-ends.ensures in
     let first = c.in_ok-paths.ensures.value in
     let second = c.in_ok-paths-2.ensures.value in
     let whole = ap (λ p. p.0.whole) second ∙ ap (λ p. p.whole) first in

@@ -10,7 +10,7 @@ use Rattle.xc_inline.proofs.Laws.Results.{given_on_both}
 use Rattle.xc_inline.proofs.context.Context.main_root.Goals as goal
 
 pub returns : goal.returns
-returns c = given_on_both c.after.result c.after.ensures.value c.after.ensures.done (λ made same done.
+returns c = given_on_both c.then_ok.result c.then_ok.ensures.value c.then_ok.ensures.done (λ made same done.
     let here = context_of c.args.self.now in
     let pos = c.args.main.now.name.pos in
     let scope = c.in_ok-scope.ensures in

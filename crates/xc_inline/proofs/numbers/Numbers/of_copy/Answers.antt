@@ -17,10 +17,10 @@ pub invariant_of-result : goal.invariant_of-result
 invariant_of-result c =
     let seen = c.in_ok-variables.ensures.first in
     let others = c.in_ok-variables.ensures.second in
-    let variables = rw seen at c.both-seen.ensures.first in
-    let channels = rw seen at c.both-seen.ensures.second in
-    let timers = rw others at c.both-others.ensures.first in
-    let blocks = rw others at c.both-others.ensures.second in
+    let variables = rw seen at c.zip_ok-seen.ensures.first in
+    let channels = rw seen at c.zip_ok-seen.ensures.second in
+    let timers = rw others at c.zip_ok-others.ensures.first in
+    let blocks = rw others at c.zip_ok-others.ensures.second in
     record {
       of_variables = rw variables at c.each_once-variables.ensures.paths;
       of_channels = rw channels at c.each_once-channels.ensures.paths;
@@ -36,8 +36,8 @@ pub returns : goal.returns
 returns c = λ scope.
     let seen = c.in_ok-variables.ensures.first in
     let others = c.in_ok-variables.ensures.second in
-    let variables = rw (rw seen at c.both-seen.ensures.first) at c.each_once-variables.ensures.items in
-    let channels = rw (rw seen at c.both-seen.ensures.second) at c.each_once-channels.ensures.items in
-    let timers = rw (rw others at c.both-others.ensures.first) at c.each_once-timers.ensures.items in
-    let blocks = rw (rw others at c.both-others.ensures.second) at c.each_once-blocks.ensures.items in
+    let variables = rw (rw seen at c.zip_ok-seen.ensures.first) at c.each_once-variables.ensures.items in
+    let channels = rw (rw seen at c.zip_ok-seen.ensures.second) at c.each_once-channels.ensures.items in
+    let timers = rw (rw others at c.zip_ok-others.ensures.first) at c.each_once-timers.ensures.items in
+    let blocks = rw (rw others at c.zip_ok-others.ensures.second) at c.each_once-blocks.ensures.items in
     λ i. record { variables = variables i; channels = channels i; timers = timers i; blocks = blocks i }

@@ -1,9 +1,0 @@
-use Rattle.std.proofs.Common.{◌≡◌, ◌++◌}
-use Rattle.std.specs.VecDeque.{deque_len}
-use Rattle.xc_inline.proofs.memory.put_behind.Given as goal
-
-abbrev pub invariant-moved : goal.invariant-moved
-invariant-moved g l = l.items.items ++ l.short.items ≡ l.fn.items.items ++ l.fn.short.items
-
-abbrev pub decreases-moved : goal.decreases-moved
-decreases-moved g l = deque_len l.short
