@@ -7,13 +7,13 @@ ghost use Rattle.xc_nonterminals.specs.Reading.{Reads};
 ghost use Rattle.xc_nonterminals.specs.Stops.{Stopped};
 ghost use Rattle.xc_nonterminals.specs.Parts.{mark_of};
 
-use crate::memory::beside;
 use crate::parser::{Parser, Read};
 use crate::stop::Stop;
 use crate::tokens::is_symbol;
 use xc_tree::symbols::{EQUALS, MINUS_MINUS, PLUS_PLUS};
 use xc_tree::{Kind, Rhs, St};
 use xw_words::Pos;
+use xw_words::allocation::with_ok;
 
 /// An operator that assigns, by its place in `SYMBOLS`, and where it stands.
 #[derive(Clone, Copy)]
@@ -41,7 +41,7 @@ impl<'a> Parser<'a> {
         let end = target.end;
         if is_symbol(self.toks, end, EQUALS) {
             let pos = self.toks[end].pos;
-            let (target, right) = beside(target.value, self.rhs(end + 1, room))?;
+            let (target, right) = with_ok(target.value, self.rhs(end + 1, room))?;
             let Read { value, end } = right;
             let Some(value) = value else { unreachable!() };
             return Ok(Read {
@@ -61,8 +61,8 @@ impl<'a> Parser<'a> {
                 end: end + 1,
             });
         }
-        let (target, mark) = beside(target.value, self.assign_op(end))?;
-        let (target, value) = beside(target, self.expr(mark.end, room))?;
+        let (target, mark) = with_ok(target.value, self.assign_op(end))?;
+        let (target, value) = with_ok(target, self.expr(mark.end, room))?;
         let Mark { symbol, pos } = mark.value;
         Ok(Read {
             value: St::Assign(target, symbol, pos, Rhs::Value(value.value)),

@@ -7,10 +7,10 @@ ghost use Rattle.xc_tree.specs.Plain as plain;
 ghost use Rattle.xc_tree.specs.Trees as trees;
 ghost use Rattle.xc_nonterminals.specs.declared.stop.Stop.TheVariants as stop;
 
-use crate::memory::boxed;
 use crate::parser::{Parser, Read};
 use crate::stop::Stop;
 use xc_tree::{St, Stmt};
+use xw_words::allocation::boxed;
 
 impl<'a> Parser<'a> {
     /// The statement from one place up to another, which has so many tokens in statements that it holds.

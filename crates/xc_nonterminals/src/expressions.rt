@@ -12,13 +12,13 @@ ghost use Rattle.xc_nonterminals.specs.Stops.{Stopped};
 ghost use Rattle.xc_nonterminals.specs.Levels.{NoOperator};
 ghost use Rattle.xc_nonterminals.specs.Operands.{IsSymbol, IsBracket, IsSized, ReadsLevel, ReadsExpression};
 
-use crate::memory::beside;
 use crate::nodes;
 use crate::parser::{Parser, Read};
 use crate::stop::Stop;
 use crate::tokens::{is_bracket, is_symbol, operator_at};
 use xc_tree::Expr;
 use xc_tree::symbols::{COLON, END_PAREN, QUESTION};
+use xw_words::allocation::with_ok;
 
 /// An expression, how many of its nodes stand one below the other, and the place of the token behind it.
 #[derive(Drop)]
@@ -146,7 +146,7 @@ impl<'a> Parser<'a> {
     {
         let question = test.end;
         let pos = self.toks[question].pos;
-        let (test, first) = match beside(test, self.expression(question + 1, room - 1)) {
+        let (test, first) = match with_ok(test, self.expression(question + 1, room - 1)) {
             Ok(both) => both,
             Err(e) => return Err(e),
         };
@@ -157,7 +157,7 @@ impl<'a> Parser<'a> {
             return Err(Stop::Wrong(colon));
         }
         let both = (test, first);
-        let (both, second) = match beside(both, self.expression(colon + 1, room - 1)) {
+        let (both, second) = match with_ok(both, self.expression(colon + 1, room - 1)) {
             Ok(all) => all,
             Err(e) => return Err(e),
         };

@@ -13,7 +13,6 @@ ghost use Rattle.xc_nonterminals.specs.Stops.{Stopped};
 ghost use Rattle.xc_nonterminals.specs.Tails.{do_row};
 
 use crate::declarations::variable;
-use crate::memory::beside;
 use crate::parser::{Parser, Read};
 use crate::stop::Stop;
 use crate::tokens::{begins_type, is_name, is_symbol};
@@ -21,6 +20,7 @@ use xc_tree::symbols::{END_PAREN, EQUALS, PAREN, SEMICOLON};
 use xc_tree::words::WHILE_WORD;
 use xc_tree::{Expr, St, Stmt};
 use xw_words::List;
+use xw_words::allocation::with_ok;
 
 /// The three parts between the brackets of a `for`.
 #[derive(Drop)]
@@ -47,7 +47,7 @@ impl<'a> Parser<'a> {
         let open = self.symbol(at + 1, PAREN)?;
         let test = self.expr(open.end, room)?;
         let close = self.closed(test, END_PAREN)?;
-        let (test, body) = beside(close.value, self.statement(close.end, room))?;
+        let (test, body) = with_ok(close.value, self.statement(close.end, room))?;
         let held = body.end - close.end;
         self.whole(at, body.end, held, St::While(test, body.value))
     }
@@ -101,7 +101,7 @@ impl<'a> Parser<'a> {
     {
         let read = self.for_parts(at, room)?;
         let held = read.value.held;
-        let (parts, body) = beside(read.value, self.statement(read.end, room))?;
+        let (parts, body) = with_ok(read.value, self.statement(read.end, room))?;
         let all = held + (body.end - read.end);
         let kind = St::For(parts.start, parts.test, parts.step, body.value);
         self.whole(at, body.end, all, kind)

@@ -12,7 +12,6 @@ mod expected;
 mod expressions;
 pub mod functions;
 mod iterations;
-mod memory;
 mod nodes;
 mod operands;
 mod pars;

@@ -5,11 +5,11 @@ ghost use Rattle.xc_tree.specs.Trees.{expression_of};
 ghost use Rattle.xc_tree.specs.Plain as plain;
 ghost use Rattle.xc_nonterminals.specs.declared.stop.Stop.TheVariants as stop;
 
-use crate::memory::{boxed, boxed_pair, boxed_three};
 use crate::stop::Stop;
 use std::alloc::Global;
 use xc_tree::{Ex, Expr, Text};
-use xw_words::Pos;
+use xw_words::allocation::{boxed, zip_ok};
+use xw_words::{Memory, Pos};
 
 /// A number.
 pub fn number(value: u32, is_unsigned: bool, pos: Pos) -> Expr
@@ -42,7 +42,7 @@ pub fn index(alloc: Global, text: Text, place: Expr, pos: Pos) -> Result<Expr, S
             kind: Ex::Index(text, place),
             pos,
         }),
-        Err(e) => Err(e),
+        Err(Memory) => Err(Stop::Memory),
     }
 }
 
@@ -57,7 +57,7 @@ pub fn unary(alloc: Global, symbol: u8, operand: Expr, pos: Pos) -> Result<Expr,
             kind: Ex::Un(symbol, operand),
             pos,
         }),
-        Err(e) => Err(e),
+        Err(Memory) => Err(Stop::Memory),
     }
 }
 
@@ -72,7 +72,7 @@ pub fn cast(alloc: Global, is_unsigned: bool, operand: Expr, pos: Pos) -> Result
             kind: Ex::Cast(is_unsigned, operand),
             pos,
         }),
-        Err(e) => Err(e),
+        Err(Memory) => Err(Stop::Memory),
     }
 }
 
@@ -82,12 +82,12 @@ pub fn binary(alloc: Global, symbol: u8, left: Expr, right: Expr, pos: Pos) -> R
         ≡ plain.expression (plain.binary symbol (expression_of left) (expression_of right)) pos) }
     ensures memory { IfErr result (λ e. e ≡ stop.Memory) }
 {
-    match boxed_pair(alloc, left, right) {
-        Ok(boxes) => Ok(Expr {
-            kind: Ex::Bin(symbol, boxes.0, boxes.1),
+    match zip_ok(boxed(alloc, left), boxed(alloc, right)) {
+        Ok((left, right)) => Ok(Expr {
+            kind: Ex::Bin(symbol, left, right),
             pos,
         }),
-        Err(e) => Err(e),
+        Err(Memory) => Err(Stop::Memory),
     }
 }
 
@@ -97,11 +97,12 @@ pub fn choice(alloc: Global, test: Expr, first: Expr, second: Expr, pos: Pos) ->
         (plain.choice (expression_of test) (expression_of first) (expression_of second)) pos) }
     ensures memory { IfErr result (λ e. e ≡ stop.Memory) }
 {
-    match boxed_three(alloc, test, first, second) {
-        Ok(boxes) => Ok(Expr {
-            kind: Ex::Cond(boxes.0, boxes.1, boxes.2),
+    let choices = zip_ok(boxed(alloc, first), boxed(alloc, second));
+    match zip_ok(boxed(alloc, test), choices) {
+        Ok((test, (first, second))) => Ok(Expr {
+            kind: Ex::Cond(test, first, second),
             pos,
         }),
-        Err(e) => Err(e),
+        Err(Memory) => Err(Stop::Memory),
     }
 }

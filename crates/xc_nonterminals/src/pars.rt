@@ -14,7 +14,6 @@ ghost use Rattle.xc_nonterminals.specs.Stops.{Stopped};
 ghost use Rattle.xc_nonterminals.specs.Values.{numeral_of};
 
 use crate::expected::Numeral;
-use crate::memory::{beside, boxed};
 use crate::parser::{Parser, Read};
 use crate::stop::Stop;
 use crate::tokens::is_symbol;
@@ -22,6 +21,7 @@ use xc_tree::symbols::{BELOW, BRACE, END_BRACE, END_PAREN, EQUALS, PAREN, PLUS_P
 use xc_tree::words::INT_WORD;
 use xc_tree::{Branch, Id, St, Stmt};
 use xw_words::List;
+use xw_words::allocation::{boxed, with_ok};
 
 /// What was read, how many of its tokens are in statements that it holds, and the place of the token behind it.
 #[derive(Drop)]
@@ -88,7 +88,7 @@ impl<'a> Parser<'a> {
     {
         let place = self.maybe_place(at, room)?;
         let start = place.end;
-        let (place, body) = beside(place.value, self.statement(start, room))?;
+        let (place, body) = with_ok(place.value, self.statement(start, room))?;
         Ok(Holder {
             value: Branch {
                 place,
@@ -112,8 +112,8 @@ impl<'a> Parser<'a> {
             (λ e. Stopped self.now.toks.now (room + 1) symbol.statement at e) }
     {
         let counts = self.counts(at)?;
-        let (counts, branch) = beside(counts.value, self.branch(counts.end, room))?;
-        let (counts, body) = beside(counts, boxed(self.alloc, branch.value))?;
+        let (counts, branch) = with_ok(counts.value, self.branch(counts.end, room))?;
+        let (counts, body) = with_ok(counts, boxed(self.alloc, branch.value))?;
         let Counts {
             first,
             second,

@@ -13,13 +13,13 @@ ghost use Rattle.xc_nonterminals.specs.RowReading.{ReadsRow, StoppedRow};
 ghost use Rattle.xc_nonterminals.specs.declared.stop.Stop.TheVariants as stop;
 ghost use Rattle.xc_nonterminals.specs.Stops.{Stopped};
 
-use crate::memory::beside;
 use crate::parser::{Parser, Read};
 use crate::stop::Stop;
 use crate::tokens::is_word;
 use xc_tree::symbols::{BRACKET, COLON, END_BRACKET, EQUALS, SEMICOLON};
 use xc_tree::words::{ON_WORD, STDCORE_WORD, TILE_WORD};
 use xc_tree::{At, Id, PortItem, TreeDir};
+use xw_words::allocation::with_ok;
 
 /// A port without its place: its direction, its name, and what it stands for.
 #[derive(Drop)]
@@ -39,7 +39,7 @@ impl<'a> Parser<'a> {
         ensures stopped { IfErr result (λ e. Stopped self.now.toks.now room symbol.portdecl at e) }
     {
         let place = self.maybe_place(at, room)?;
-        let (place, port) = beside(place.value, self.port(place.end))?;
+        let (place, port) = with_ok(place.value, self.port(place.end))?;
         let Port { dir, name, ident } = port.value;
         Ok(Read {
             value: PortItem {

@@ -12,7 +12,6 @@ ghost use Rattle.xc_nonterminals.specs.RowReading.{ReadsRow, StoppedRow};
 ghost use Rattle.xc_nonterminals.specs.CaseParts.{transfers, awaited, event_row, body_row};
 ghost use Rattle.xc_nonterminals.specs.Stops.{Stopped};
 
-use crate::memory::beside;
 use crate::pars::Holder;
 use crate::parser::{Parser, Read};
 use crate::stop::Stop;
@@ -21,6 +20,7 @@ use xc_tree::symbols::{ARROW, AT_SIGN, BRACE, COLON, END_BRACE, RECEIVES, SEMICO
 use xc_tree::words::{BREAK_WORD, CASE_WORD, DEFAULT_WORD, WHEN_WORD};
 use xc_tree::{Case, Expr, Head, St, Stmt};
 use xw_words::List;
+use xw_words::allocation::with_ok;
 
 /// What a case waits for.
 #[derive(Drop)]
@@ -73,7 +73,7 @@ impl<'a> Parser<'a> {
         }
         let word = self.word(at, CASE_WORD)?;
         let event = self.event(word.end, room)?;
-        let (event, body) = beside(event.value, self.case_body(event.end, room))?;
+        let (event, body) = with_ok(event.value, self.case_body(event.end, room))?;
         let Event { guard, input } = event;
         Ok(Holder {
             value: Case {
@@ -169,7 +169,7 @@ impl<'a> Parser<'a> {
             }
         }
         let guard = self.guard(at, room)?;
-        let (guard, input) = beside(guard.value, self.awaited(guard.end, room))?;
+        let (guard, input) = with_ok(guard.value, self.awaited(guard.end, room))?;
         Ok(Read {
             value: Event {
                 guard: Some(guard),

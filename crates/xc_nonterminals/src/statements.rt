@@ -12,7 +12,6 @@ ghost use Rattle.xc_nonterminals.specs.Follows.{OneOf, StandsAt, has, begins_sta
 ghost use Rattle.xc_nonterminals.specs.Reading.{Reads};
 ghost use Rattle.xc_nonterminals.specs.Stops.{Stopped};
 
-use crate::memory::beside;
 use crate::parser::{Parser, Read};
 use crate::stop::Stop;
 use crate::tokens::{is_symbol, is_word};
@@ -27,6 +26,7 @@ use xc_tree::words::{
 };
 use xc_tree::{Kind, St, Stmt, Tok};
 use xw_words::List;
+use xw_words::allocation::with_ok;
 
 /// How a statement begins.
 #[derive(Clone, Copy)]
@@ -313,14 +313,14 @@ impl<'a> Parser<'a> {
         let open = self.symbol(at + 1, PAREN)?;
         let test = self.expr(open.end, room)?;
         let close = self.closed(test, END_PAREN)?;
-        let (test, first) = beside(close.value, self.statement(close.end, room))?;
+        let (test, first) = with_ok(close.value, self.statement(close.end, room))?;
         let held = first.end - close.end;
         if !is_word(self.toks, first.end, ELSE_WORD) {
             let kind = St::If(test, first.value, None);
             return self.whole(at, first.end, held, kind);
         }
         let kept = (test, first.value);
-        let (kept, second) = beside(kept, self.statement(first.end + 1, room))?;
+        let (kept, second) = with_ok(kept, self.statement(first.end + 1, room))?;
         let both = held + (second.end - first.end - 1);
         let kind = St::If(kept.0, kept.1, Some(second.value));
         self.whole(at, second.end, both, kind)

@@ -14,13 +14,13 @@ ghost use Rattle.xc_nonterminals.specs.Parts.{waits_of, received, sent};
 ghost use Rattle.xc_nonterminals.specs.Goals.{ReadsGoal, StopsGoal};
 ghost use Rattle.xc_nonterminals.specs.Tails.{output_row, input_row};
 
-use crate::memory::beside;
 use crate::parser::{Parser, Read};
 use crate::stop::Stop;
 use crate::tokens::{begins_type, is_symbol, is_word};
 use xc_tree::symbols::{AT_SIGN, END_PAREN, PAREN, RECEIVES, SEMICOLON, SENDS};
 use xc_tree::words::{PINSEQ_WORD, PINSNEQ_WORD, TIMERAFTER_WORD, VOID_WORD, WHEN_WORD};
 use xc_tree::{Dest, Expr, Head, Id, Send, St, Stmt, Timed, When};
+use xw_words::allocation::with_ok;
 
 /// What stands between the name of an input and its `:>`.
 #[derive(Drop)]
@@ -55,10 +55,10 @@ impl<'a> Parser<'a> {
         ensures stopped { IfErr result (λ e. Stopped self.now.toks.now room symbol.input at e) }
     {
         let name = self.id(at)?;
-        let (name, waits) = beside(name.value, self.waits(name.end, room))?;
-        let (name, closed) = beside(name, self.closed(waits, RECEIVES))?;
+        let (name, waits) = with_ok(name.value, self.waits(name.end, room))?;
+        let (name, closed) = with_ok(name, self.closed(waits, RECEIVES))?;
         let before = (name, closed.value);
-        let (before, goal) = beside(before, self.goal(closed.end, room))?;
+        let (before, goal) = with_ok(before, self.goal(closed.end, room))?;
         let Goal { dest, stamp } = goal.value;
         Ok(Read {
             value: input_of(before.0, before.1, dest, stamp),
@@ -116,16 +116,16 @@ impl<'a> Parser<'a> {
             (λ e. Stopped self.now.toks.now (room + 1) symbol.statement at e) }
     {
         let name = self.id(at)?;
-        let (name, time) = beside(name.value, self.time(name.end, room))?;
+        let (name, time) = with_ok(name.value, self.time(name.end, room))?;
         let end = time.end;
         let before = (name, time.value);
         if is_symbol(self.toks, end, SENDS) {
-            let (before, sends) = beside(before, self.output_tail(end, room))?;
+            let (before, sends) = with_ok(before, self.output_tail(end, room))?;
             let OutputTail { value, stamp } = sends.value;
             let output = output_of(before.0, Some(before.1), value, stamp);
             return self.whole(at, sends.end, 0, St::Output(output));
         }
-        let (before, receives) = beside(before, self.input_tail(end, room))?;
+        let (before, receives) = with_ok(before, self.input_tail(end, room))?;
         let Goal { dest, stamp } = receives.value;
         let input = input_of(before.0, Waits::Time(before.1), dest, stamp);
         self.whole(at, receives.end, 0, St::Input(input))
@@ -146,8 +146,8 @@ impl<'a> Parser<'a> {
     {
         let sends = self.symbol(at, SENDS)?;
         let value = self.expr(sends.end, room)?;
-        let (value, stamp) = beside(value.value, self.maybe_stamp(value.end, room))?;
-        let (value, closed) = beside(value, self.closed(stamp, SEMICOLON))?;
+        let (value, stamp) = with_ok(value.value, self.maybe_stamp(value.end, room))?;
+        let (value, closed) = with_ok(value, self.closed(stamp, SEMICOLON))?;
         Ok(Read {
             value: OutputTail {
                 value,
@@ -185,7 +185,7 @@ impl<'a> Parser<'a> {
         ensures stopped { IfErr result (λ e. StopsGoal self.now.toks.now room at e) }
     {
         let dest = self.dest(at, room)?;
-        let (dest, stamp) = beside(dest.value, self.maybe_stamp(dest.end, room))?;
+        let (dest, stamp) = with_ok(dest.value, self.maybe_stamp(dest.end, room))?;
         Ok(Read {
             value: Goal {
                 dest,

@@ -3,4 +3,4 @@ use Rattle.xc_tree.proofs.Forms.{expression-made, form-Cast}
 use Rattle.xc_nonterminals.proofs.nodes.cast.Goals as goal
 
 pub returns-in-Ok-clause-made : goal.returns-in-Ok-clause-made
-returns-in-Ok-clause-made c = rw (expression-made, form-Cast, c.in-Ok.ensures.value) refl
+returns-in-Ok-clause-made c = rw (expression-made, form-Cast, c.in-Ok.ensures) refl

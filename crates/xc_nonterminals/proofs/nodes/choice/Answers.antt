@@ -3,4 +3,9 @@ use Rattle.xc_tree.proofs.Forms.{expression-made, form-Cond}
 use Rattle.xc_nonterminals.proofs.nodes.choice.Goals as goal
 
 pub returns-in-Ok-clause-made : goal.returns-in-Ok-clause-made
-returns-in-Ok-clause-made c = rw (expression-made, form-Cond, c.in-Ok.ensures.first, c.in-Ok.ensures.second, c.in-Ok.ensures.third) refl
+returns-in-Ok-clause-made c =
+    let choices = c.in-Ok.ensures.second in
+    let first = rw (rw choices at c.zip_ok-choices.ensures.first) at c.boxed.ensures in
+    let second = rw (rw choices at c.zip_ok-choices.ensures.second) at c.boxed-2.ensures in
+    let test = rw c.in-Ok.ensures.first at c.boxed-3.ensures in
+    rw (expression-made, form-Cond, test, first, second) refl

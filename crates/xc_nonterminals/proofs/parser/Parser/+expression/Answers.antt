@@ -98,7 +98,7 @@ choice-returns-in-Err-clause-stopped t c =
     let q = c.requires.question in
     let on = stands_here c.index-self-question.result q.0 q.1.1 in
     let h : of_expression (expression_of c.args.test.tree) + 1 ≤ c.args.room = let d = c.requires.test.depth in let f = c.requires.fits in omega arith in
-    let stopped = rw c.in-Err.ensures.stopped at c.expression.ensures.stopped in
+    let stopped = rw c.in-Err.ensures.failed at c.expression.ensures.stopped in
     λ at r. stops_first c.args.self.now.toks.now r on h c.in-Err.e stopped
 
 pub choice-returns-then-not-is_symbol-clause-stopped : goal.choice-returns-then-not-is_symbol-clause-stopped
@@ -106,18 +106,18 @@ choice-returns-then-not-is_symbol-clause-stopped t c =
     let q = c.requires.question in
     let on = stands_here c.index-self-question.result q.0 q.1.1 in
     let h : of_expression (expression_of c.args.test.tree) + 1 ≤ c.args.room = let d = c.requires.test.depth in let f = c.requires.fits in omega arith in
-    let first = rw c.in-Ok.ensures.next at c.expression.ensures.read in
+    let first = rw c.in-Ok.ensures.made at c.expression.ensures.read in
     λ at r. no_colon c.args.self.now.toks.now r on h first (c.is_symbol.ensures.no c.if-not-is_symbol.true)
 
-pub choice-returns-in-Err-beside-clause-stopped : goal.choice-returns-in-Err-beside-clause-stopped
-choice-returns-in-Err-beside-clause-stopped t c =
+pub choice-returns-in-Err-with_ok-clause-stopped : goal.choice-returns-in-Err-with_ok-clause-stopped
+choice-returns-in-Err-with_ok-clause-stopped t c =
     let q = c.requires.question in
     let on = stands_here c.index-self-question.result q.0 q.1.1 in
     let h : of_expression (expression_of c.args.test.tree) + 1 ≤ c.args.room = let d = c.requires.test.depth in let f = c.requires.fits in omega arith in
     let colon = c.is_symbol.ensures.yes c.if-not-is_symbol.false in
-    let first = rw c.in-Ok.ensures.next at c.expression.ensures.read in
-    let stopped = rw c.in-Err-beside.ensures.stopped at c.expression-2.ensures.stopped in
-    λ at r. stops_second c.args.self.now.toks.now r on h first colon.1.1 c.in-Err-beside.e stopped
+    let first = rw c.in-Ok.ensures.made at c.expression.ensures.read in
+    let stopped = rw c.in-Err-with_ok.ensures.failed at c.expression-2.ensures.stopped in
+    λ at r. stops_second c.args.self.now.toks.now r on h first colon.1.1 c.in-Err-with_ok.e stopped
 
 pub choice-returns-in-Ok-choice-clause-read : goal.choice-returns-in-Ok-choice-clause-read
 choice-returns-in-Ok-choice-clause-read t c =
@@ -125,9 +125,9 @@ choice-returns-in-Ok-choice-clause-read t c =
     let on = stands_here c.index-self-question.result q.0 q.1.1 in
     let h : of_expression (expression_of c.args.test.tree) + 1 ≤ c.args.room = let d = c.requires.test.depth in let f = c.requires.fits in omega arith in
     let colon = c.is_symbol.ensures.yes c.if-not-is_symbol.false in
-    let first = rw c.in-Ok.ensures.next at c.expression.ensures.read in
-    let second = rw c.in-Ok-beside.ensures.next at c.expression-2.ensures.read in
-    rw (c.in-Ok-choice.ensures.made, c.in-Ok-beside.ensures.value, c.in-Ok.ensures.value)
+    let first = rw c.in-Ok.ensures.made at c.expression.ensures.read in
+    let second = rw c.in-Ok-with_ok.ensures.made at c.expression-2.ensures.read in
+    rw (c.in-Ok-choice.ensures.made, c.in-Ok-with_ok.ensures.value, c.in-Ok.ensures.value)
     (λ at r. reads_choice c.args.self.now.toks.now r on h first colon.1.1 second)
 
 pub climb-operators-init : goal.climb-operators-init

@@ -8,7 +8,6 @@ use Rattle.xc_nonterminals.proofs.Stating.Conditionals.{close_stops, else_reads,
 use Rattle.xc_nonterminals.proofs.Stating.Counting.{counted_reads, counted_stops}
 use Rattle.xc_nonterminals.proofs.Derivations.Counts.{branches_tokens_push, cases_tokens_push, held_branch, held_while, held_do, held_for, held_block, held_if, held_if_else, held_transaction}
 use Rattle.xc_nonterminals.proofs.Reading.Exits.{handed_on, memory_missing}
-use Rattle.xc_nonterminals.proofs.Reading.Insides.{memory_stops}
 use Rattle.xc_nonterminals.proofs.Reading.Rounds.{while_open_stops, while_test_stops, while_close_stops, while_body_stops, while_reads, do_body_stops, do_tail_stops, do_reads, for_body_stops, for_reads, for_made}
 use Rattle.xc_nonterminals.proofs.Stating.Simples.{deep_begins, none_begins, semicolon_reads}
 use Rattle.xc_nonterminals.proofs.Reading.Stated.{begins_all, err_room, err_with, from_place, ok_room, ok_with, stopped_from, symbol_there}
@@ -26,20 +25,20 @@ branch-returns-in_err-place-clause-stopped t c =
 
 pub branch-returns-in_err-place-2-clause-stopped : goal.branch-returns-in_err-place-2-clause-stopped
 branch-returns-in_err-place-2-clause-stopped t c =
-    let body = rw c.in_err-place-2.ensures.stopped at c.statement.ensures.stopped in
+    let body = rw c.in_err-place-2.ensures.failed at c.statement.ensures.stopped in
     handed_on _ c.from_residual-in_err-place-2.result c.from_residual-in_err-place-2.ensures.1
     (body_stops c.in_ok-place.ensures.read _ body)
 
 pub branch-returns-clause-holds : goal.branch-returns-clause-holds
 branch-returns-clause-holds t c =
     let h = c.in_ok-place.ensures.bounds in
-    let l = rw c.in_ok-place-2.ensures.next at c.statement.ensures.bounds in
-    let body = rw c.in_ok-place-2.ensures.next at c.statement.ensures.read in
+    let l = rw c.in_ok-place-2.ensures.made at c.statement.ensures.bounds in
+    let body = rw c.in_ok-place-2.ensures.made at c.statement.ensures.read in
     (rw branch-made (held_branch (option_map place_of c.in_ok-place-2.place) body.derives), omega arith)
 
 pub branch-returns-clause-read : goal.branch-returns-clause-read
 branch-returns-clause-read t c =
-    let body = rw c.in_ok-place-2.ensures.next at c.statement.ensures.read in
+    let body = rw c.in_ok-place-2.ensures.made at c.statement.ensures.read in
     rw branch-made (rw c.in_ok-place-2.ensures.value (branch_reads c.in_ok-place.ensures.read body))
 
 pub replicated-returns-in_err-counts-clause-stopped : goal.replicated-returns-in_err-counts-clause-stopped
@@ -49,27 +48,21 @@ replicated-returns-in_err-counts-clause-stopped t c =
 pub replicated-returns-in_err-counts-2-clause-stopped : goal.replicated-returns-in_err-counts-2-clause-stopped
 replicated-returns-in_err-counts-2-clause-stopped t c =
     let r = c.in_ok-counts.ensures.read in
-    let branch = rw c.in_err-counts-2.ensures.stopped at c.branch-self.ensures.stopped in
+    let branch = rw c.in_err-counts-2.ensures.failed at c.branch-self.ensures.stopped in
     handed_on _ c.from_residual-in_err-counts-2.result c.from_residual-in_err-counts-2.ensures.1
     (counted_stops c.args.room c.requires.word.1 c.requires.bracket.1 (r.opens _) (r.types _) (r.firsts.2 _) (r.seconds.2 _) (r.thirds.2 _) _ branch)
 
-pub replicated-returns-in_err-counts-3-clause-stopped : goal.replicated-returns-in_err-counts-3-clause-stopped
-replicated-returns-in_err-counts-3-clause-stopped t c =
-    let memory = rw c.in_err-counts-3.ensures.stopped at c.boxed.ensures.memory in
-    handed_on _ c.from_residual-in_err-counts-3.result c.from_residual-in_err-counts-3.ensures.1
-    (memory_stops c.args.self.now.toks.now (c.args.room + 1) symbol.statement c.args.at memory)
-
 pub replicated-whole-requires-clause-held : goal.replicated-whole-requires-clause-held
 replicated-whole-requires-clause-held t c =
-    let holds = rw c.in_ok-counts-2.ensures.next at c.branch-self.ensures.holds in
-    let body = rw c.in_ok-counts-3.ensures.next at c.boxed.ensures.value in
+    let holds = rw c.in_ok-counts-2.ensures.made at c.branch-self.ensures.holds in
+    let body = rw c.in_ok-counts-3.ensures.made at c.boxed.ensures in
     rw (action-Repl, body) holds.0
 
 pub replicated-returns-clause-read : goal.replicated-returns-clause-read
 replicated-returns-clause-read t c =
     let r = c.in_ok-counts.ensures.read in
-    let branch = rw c.in_ok-counts-2.ensures.next at c.branch-self.ensures.read in
-    let body = rw c.in_ok-counts-3.ensures.next at c.boxed.ensures.value in
+    let branch = rw c.in_ok-counts-2.ensures.made at c.branch-self.ensures.read in
+    let body = rw c.in_ok-counts-3.ensures.made at c.boxed.ensures in
     ok_with _ _ c.whole.result (λ x h. rw (h.0, h.1, action-Repl, body, c.in_ok-counts-3.ensures.value, c.in_ok-counts-2.ensures.value)
     (counted_reads c.args.room c.requires.word.1 c.requires.bracket.1 (r.opens _) (r.types _) (r.firsts.2 _) (r.seconds.2 _) (r.thirds.2 _) branch)) c.whole.ensures.made
 
@@ -274,7 +267,7 @@ case-returns-in_err-event-clause-stopped t c =
 
 pub case-returns-in_err-event-2-clause-stopped : goal.case-returns-in_err-event-2-clause-stopped
 case-returns-in_err-event-2-clause-stopped t c =
-    let body = rw c.in_err-event-2.ensures.stopped at c.case_body.ensures.stopped in
+    let body = rw c.in_err-event-2.ensures.failed at c.case_body.ensures.stopped in
     handed_on _ c.from_residual-in_err-event-2.result c.from_residual-in_err-event-2.ensures.1
     (case_body_stops c.args.self.now.toks.now c.args.room c.args.at (c.is_word.ensures.no c.if-is_word.false) (c.in_ok-word.ensures.read _) c.in_ok-event.ensures.read.1 _ body)
 
@@ -282,12 +275,12 @@ pub case-returns-clause-holds : goal.case-returns-clause-holds
 case-returns-clause-holds t c =
     let word = c.in_ok-word.ensures.bounds.0 in
     let event = c.in_ok-event.ensures.bounds.0 in
-    let body = rw c.in_ok-event-2.ensures.next at c.case_body.ensures.holds in
+    let body = rw c.in_ok-event-2.ensures.made at c.case_body.ensures.holds in
     (rw (case-made _) body.0, omega arith)
 
 pub case-returns-clause-read : goal.case-returns-clause-read
 case-returns-clause-read t c =
-    let body = rw c.in_ok-event-2.ensures.next at c.case_body.ensures.read in
+    let body = rw c.in_ok-event-2.ensures.made at c.case_body.ensures.read in
     rw (case-made _, c.in_ok-event-2.ensures.value)
     (reads_case c.args.self.now.toks.now c.args.room c.args.at (c.is_word.ensures.no c.if-is_word.false) (c.in_ok-word.ensures.read _) c.in_ok-event.ensures.read.1 body.2)
 
@@ -308,18 +301,18 @@ while_loop-returns-in_err-close-clause-stopped t c =
 
 pub while_loop-returns-in_err-test-2-clause-stopped : goal.while_loop-returns-in_err-test-2-clause-stopped
 while_loop-returns-in_err-test-2-clause-stopped t c =
-    let body = rw c.in_err-test-2.ensures.stopped at c.statement.ensures.stopped in
+    let body = rw c.in_err-test-2.ensures.failed at c.statement.ensures.stopped in
     handed_on _ c.from_residual-in_err-test-2.result c.from_residual-in_err-test-2.ensures.1
     (while_body_stops c.args.room c.requires.word.1 (c.in_ok-open.ensures.read _) c.in_ok-test.ensures.read (c.in_ok-close.ensures.read.1 _) _ body)
 
 pub while_loop-whole-requires-clause-held : goal.while_loop-whole-requires-clause-held
 while_loop-whole-requires-clause-held t c =
-    let body = rw c.in_ok-test-2.ensures.next at c.statement.ensures.read in
+    let body = rw c.in_ok-test-2.ensures.made at c.statement.ensures.read in
     rw action-While (held_while (expression_of c.in_ok-close.close.value) body.derives)
 
 pub while_loop-returns-clause-read : goal.while_loop-returns-clause-read
 while_loop-returns-clause-read t c =
-    let body = rw c.in_ok-test-2.ensures.next at c.statement.ensures.read in
+    let body = rw c.in_ok-test-2.ensures.made at c.statement.ensures.read in
     ok_with _ _ c.whole.result (λ x h. rw (h.0, h.1, action-While, c.in_ok-test-2.ensures.value, c.in_ok-close.ensures.value)
     (while_reads c.args.room c.requires.word.1 (c.in_ok-open.ensures.read _) c.in_ok-test.ensures.read (c.in_ok-close.ensures.read.1 _) body)) c.whole.ensures.made
 
@@ -354,21 +347,21 @@ for_loop-returns-in_err-read-clause-stopped t c =
 pub for_loop-returns-in_err-parts-clause-stopped : goal.for_loop-returns-in_err-parts-clause-stopped
 for_loop-returns-in_err-parts-clause-stopped t c =
     let r = c.in_ok-read.ensures.read in
-    let body = rw c.in_err-parts.ensures.stopped at c.statement.ensures.stopped in
+    let body = rw c.in_err-parts.ensures.failed at c.statement.ensures.stopped in
     handed_on _ c.from_residual-in_err-parts.result c.from_residual-in_err-parts.ensures.1
     (for_body_stops c.args.room c.requires.word.1 (r.opens _) r.starts (r.ends_start _) r.tests (r.ends_test _) r.steps (r.closes _) _ body)
 
 pub for_loop-whole-requires-clause-held : goal.for_loop-whole-requires-clause-held
 for_loop-whole-requires-clause-held t c =
     let r = c.in_ok-read.ensures.read in
-    let body = rw c.in_ok-parts.ensures.next at c.statement.ensures.read in
+    let body = rw c.in_ok-parts.ensures.made at c.statement.ensures.read in
     rw (c.in_ok-parts.ensures.value, for_made, r.held)
     (held_for (option_map expression_of c.in_ok-read.read.value.test) r.starts.derives r.steps.derives body.derives)
 
 pub for_loop-returns-clause-read : goal.for_loop-returns-clause-read
 for_loop-returns-clause-read t c =
     let r = c.in_ok-read.ensures.read in
-    let body = rw c.in_ok-parts.ensures.next at c.statement.ensures.read in
+    let body = rw c.in_ok-parts.ensures.made at c.statement.ensures.read in
     ok_with _ _ c.whole.result (λ x h. rw (h.0, h.1, c.in_ok-parts.ensures.value, for_made)
     (for_reads c.args.room c.requires.word.1 (r.opens _) r.starts (r.ends_start _) r.tests (r.ends_test _) r.steps (r.closes _) body)) c.whole.ensures.made
 
@@ -587,13 +580,13 @@ conditional-returns-in_err-test-2-clause-stopped t c =
     let o = symbol_there (c.in_ok-open.ensures.read 0) in
     let q = from_place c.in_ok-open.ensures.bounds.0 c.in_ok-test.ensures.read in
     let l = symbol_there (c.in_ok-close.ensures.read.1 0) in
-    let first = rw c.in_err-test-2.ensures.stopped at c.statement.ensures.stopped in
+    let first = rw c.in_err-test-2.ensures.failed at c.statement.ensures.stopped in
     handed_on _ c.from_residual-in_err-test-2.result c.from_residual-in_err-test-2.ensures.1
     (then_stops c.args.room w o q l _ (stopped_from c.args.self.now.toks.now c.args.room symbol.statement _ c.in_ok-close.ensures.bounds.0 first))
 
 pub conditional-whole-requires-clause-held : goal.conditional-whole-requires-clause-held
 conditional-whole-requires-clause-held t c =
-    let first = rw c.in_ok-test-2.ensures.next at c.statement.ensures.read in
+    let first = rw c.in_ok-test-2.ensures.made at c.statement.ensures.read in
     rw action-If (held_if (expression_of c.in_ok-close.close.value) first.derives)
 
 pub conditional-returns-then-not-is_word-clause-read : goal.conditional-returns-then-not-is_word-clause-read
@@ -602,7 +595,7 @@ conditional-returns-then-not-is_word-clause-read t c =
     let o = symbol_there (c.in_ok-open.ensures.read 0) in
     let q = from_place c.in_ok-open.ensures.bounds.0 c.in_ok-test.ensures.read in
     let l = symbol_there (c.in_ok-close.ensures.read.1 0) in
-    let first = rw c.in_ok-test-2.ensures.next at c.statement.ensures.read in
+    let first = rw c.in_ok-test-2.ensures.made at c.statement.ensures.read in
     let s = from_place c.in_ok-close.ensures.bounds.0 first in
     ok_with _ _ c.whole.result (λ x h. rw (h.0, h.1, action-If, c.in_ok-test-2.ensures.value, c.in_ok-close.ensures.value)
     (then_reads c.args.room w o q l s (c.is_word.ensures.no c.if-not-is_word.true))) c.whole.ensures.made
@@ -616,17 +609,17 @@ conditional-returns-in_err-kept-clause-stopped t c =
     let o = symbol_there (c.in_ok-open.ensures.read 0) in
     let q = from_place c.in_ok-open.ensures.bounds.0 c.in_ok-test.ensures.read in
     let l = symbol_there (c.in_ok-close.ensures.read.1 0) in
-    let first = rw c.in_ok-test-2.ensures.next at c.statement.ensures.read in
+    let first = rw c.in_ok-test-2.ensures.made at c.statement.ensures.read in
     let s = from_place c.in_ok-close.ensures.bounds.0 first in
     let els = (c.is_word.ensures.yes c.if-not-is_word.false).1.1 in
-    let second = rw c.in_err-kept.ensures.stopped at c.statement-2.ensures.stopped in
+    let second = rw c.in_err-kept.ensures.failed at c.statement-2.ensures.stopped in
     handed_on _ c.from_residual-in_err-kept.result c.from_residual-in_err-kept.ensures.1
     (else_stops c.args.room w o q l s els _ second)
 
 pub conditional-whole-requires-2-clause-held : goal.conditional-whole-requires-2-clause-held
 conditional-whole-requires-2-clause-held t c =
-    let first = rw c.in_ok-test-2.ensures.next at c.statement.ensures.read in
-    let second = rw c.in_ok-kept.ensures.next at c.statement-2.ensures.read in
+    let first = rw c.in_ok-test-2.ensures.made at c.statement.ensures.read in
+    let second = rw c.in_ok-kept.ensures.made at c.statement-2.ensures.read in
     rw (action-If, c.in_ok-kept.ensures.value) (held_if_else (expression_of c.in_ok-close.close.value) first.derives second.derives)
 
 pub conditional-returns-clause-read : goal.conditional-returns-clause-read
@@ -635,10 +628,10 @@ conditional-returns-clause-read t c =
     let o = symbol_there (c.in_ok-open.ensures.read 0) in
     let q = from_place c.in_ok-open.ensures.bounds.0 c.in_ok-test.ensures.read in
     let l = symbol_there (c.in_ok-close.ensures.read.1 0) in
-    let first = rw c.in_ok-test-2.ensures.next at c.statement.ensures.read in
+    let first = rw c.in_ok-test-2.ensures.made at c.statement.ensures.read in
     let s = from_place c.in_ok-close.ensures.bounds.0 first in
     let els = (c.is_word.ensures.yes c.if-not-is_word.false).1.1 in
-    let second = rw c.in_ok-kept.ensures.next at c.statement-2.ensures.read in
+    let second = rw c.in_ok-kept.ensures.made at c.statement-2.ensures.read in
     ok_with _ _ c.whole-2.result (λ x h. rw (h.0, h.1, action-If, c.in_ok-kept.ensures.value, c.in_ok-test-2.ensures.value, c.in_ok-close.ensures.value)
     (else_reads c.args.room w o q l s els second)) c.whole-2.ensures.made
 

@@ -31,7 +31,7 @@ returns-in_err-guard-clause-stopped c =
 pub returns-in_err-guard-2-clause-stopped : goal.returns-in_err-guard-2-clause-stopped
 returns-in_err-guard-2-clause-stopped c =
     let behind = c.in_ok-guard.ensures.bounds.0 in
-    let stopped = rw c.in_err-guard-2.ensures.stopped at c.awaited-2.ensures.stopped in
+    let stopped = rw c.in_err-guard-2.ensures.failed at c.awaited-2.ensures.stopped in
     handed_on _ c.from_residual-in_err-guard-2.result c.from_residual-in_err-guard-2.ensures.1
     (elim c.if-is_name.branch [
       | then-is_name+else-is_transfer+else-room-eq0 w ↦
@@ -43,7 +43,7 @@ returns-in_err-guard-2-clause-stopped c =
 pub returns-clause-read : goal.returns-clause-read
 returns-clause-read c =
     let behind = c.in_ok-guard.ensures.bounds.0 in
-    let read = rw c.in_ok-guard-2.ensures.next at c.awaited-2.ensures.read in (
+    let read = rw c.in_ok-guard-2.ensures.made at c.awaited-2.ensures.read in (
       read.0,
       rw c.in_ok-guard-2.ensures.value elim c.if-is_name.branch [
         | then-is_name+else-is_transfer+else-room-eq0 w ↦
