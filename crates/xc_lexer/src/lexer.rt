@@ -12,6 +12,7 @@ ghost use Rattle.xc_tree.specs.Refusals.{IfBroken};
 ghost use Rattle.xc_lexer.specs.Lines.{DefineIs, TailIs};
 ghost use Rattle.xc_lexer.specs.Places.{IsPlace};
 ghost use Rattle.xc_lexer.specs.Steps.{Went, FirstOf};
+ghost use Rattle.xw_words.specs.Limits.{longest_text};
 
 use crate::lines::{Definition, Ending, definition_at, include_end, tail};
 use crate::names::Names;
@@ -46,7 +47,7 @@ const LONGEST: usize = 262_144;
 /// that begins with `#` has none of the forms, or defines a name again; 105 the text has more than 262,144 bytes, and then
 /// no other rule is looked at; 106 a number has none of the forms. The other error is that memory could not be had.
 pub fn lex(alloc: Global, text: &[u8]) -> Result<List<Tok>, LexErr>
-    requires short { length text.now ≤ 4194304 }
+    requires short { length text.now ≤ longest_text }
     ensures tokens { IfOk result (λ toks. Lexes text.now toks) }
     ensures only { IfOk result (λ toks. (v : List Tok) → Lexes text.now v → v ≡ toks) }
     ensures rising { IfOk result Rise }

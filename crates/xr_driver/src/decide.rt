@@ -12,6 +12,7 @@ ghost use Rattle.xr_driver.specs.Outside.{loads};
 ghost use Rattle.xr_driver.specs.Parts.{IsAnswer, IsAnswerOnText};
 ghost use Rattle.xr_front.specs.Rules.{First, IsKernelOf};
 ghost use Rattle.xr_driver.specs.Runs.{IsCompiled};
+ghost use Rattle.xw_io.specs.Outside.{max_file};
 
 use crate::run::{Run, run_for};
 use crate::words::{Command, meaning};
@@ -87,7 +88,7 @@ fn answer<'w, S: Shelf>(alloc: Global, command: Command<'w>, shelf: &mut S) -> D
 
 /// What is answered to a command whose file has this text.
 fn answer_on_text<'w>(alloc: Global, command: Command<'w>, text: Vec<u8>) -> Decision<'w>
-    requires { length text.items ≤ 4194304 }
+    requires { length text.items ≤ max_file }
     ensures decided { IsAnswerOnText (command_of command.entry) text.items (outcome_of result) }
     ensures printable { IsPrintable result.printed }
 {
@@ -100,7 +101,7 @@ fn answer_on_text<'w>(alloc: Global, command: Command<'w>, text: Vec<u8>) -> Dec
 
 /// Reads a text, which is dropped then.
 fn read_whole(alloc: Global, text: Vec<u8>) -> Result<Checked, Refusal>
-    requires { length text.items ≤ 4194304 }
+    requires { length text.items ≤ max_file }
     ensures accepted { IfOk result (λ checked. IsKernelOf text.items (kernel_of checked)) }
     ensures built { IfOk result (λ checked. KernelIsBuilt (kernel_of checked)) }
     ensures first { IfErr result

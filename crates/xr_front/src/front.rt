@@ -13,6 +13,7 @@ ghost use Rattle.xc_tree.specs.Types.Named.{named_of};
 ghost use Rattle.xl_image.specs.Roots.{KernelIsBuilt};
 ghost use Rattle.xr_front.specs.Reads.{IsReadAs};
 ghost use Rattle.xr_front.specs.Rules.{First, IsKernelOf};
+ghost use Rattle.xw_words.specs.Limits.{longest_text};
 
 use std::alloc::Global;
 use xc_disjoint::{Checked, disjoint};
@@ -34,7 +35,7 @@ const NOT_BUILT: Broken = Broken {
 
 /// The kernel of the program that a text means, or the first rule that the text breaks.
 pub fn read_text(alloc: Global, text: &[u8]) -> Result<Checked, Refusal>
-    requires { length text.now ≤ 4194304 }
+    requires { length text.now ≤ longest_text }
     ensures accepted { IfOk result (λ checked. IsKernelOf text.now (kernel_of checked)) }
     ensures built { IfOk result (λ checked. KernelIsBuilt (kernel_of checked)) }
     ensures first { IfErr result (λ refusal. IfBroken refusal (λ broken. First text.now broken)) }

@@ -3,6 +3,7 @@
 ghost use Rattle.std.specs.Prelude.{◌≤◌, length, IfSome};
 ghost use Rattle.xc_kernel.specs.Kernels.{kernel_of};
 ghost use Rattle.xc_kernel.specs.Sound.{IsOfProgram};
+ghost use Rattle.xw_words.specs.Limits.{longest_text};
 
 use crate::shown::{Page, put_kernel};
 use crate::texts::{put_broken, typed};
@@ -12,7 +13,7 @@ use xc_kernel::Kernel;
 
 /// The kernel of a text. Where it has none, it is put why: it has no types, or breaks rule 509.
 pub fn kernel_of_text(page: &mut Page, alloc: Global, text: &[u8]) -> Option<Kernel>
-    requires { length text.now ≤ 4194304 }
+    requires { length text.now ≤ longest_text }
     ensures { IfSome result (λ kernel. IsOfProgram (kernel_of kernel)) }
 {
     let Some(typed) = typed(alloc, text) else {
@@ -29,7 +30,7 @@ pub fn kernel_of_text(page: &mut Page, alloc: Global, text: &[u8]) -> Option<Ker
 
 /// A text's kernel.
 pub fn put_flattened(page: &mut Page, alloc: Global, text: &[u8])
-    requires { length text.now ≤ 4194304 }
+    requires { length text.now ≤ longest_text }
 {
     if let Some(kernel) = kernel_of_text(page, alloc, text) {
         put_kernel(page, &kernel);
@@ -38,7 +39,7 @@ pub fn put_flattened(page: &mut Page, alloc: Global, text: &[u8])
 
 /// Where a text breaks rule 509, or how many instances of functions and how many counted words its kernel has.
 pub fn put_size(page: &mut Page, alloc: Global, text: &[u8])
-    requires { length text.now ≤ 4194304 }
+    requires { length text.now ≤ longest_text }
 {
     if let Some(kernel) = kernel_of_text(page, alloc, text) {
         put_size_of(page, &kernel);

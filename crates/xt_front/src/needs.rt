@@ -3,6 +3,7 @@
 ghost use Rattle.std.specs.Prelude.{◌≤◌, length};
 ghost use Rattle.xc_kernel.specs.Kernels.{kernel_of};
 ghost use Rattle.xc_kernel.specs.Sound.{IsOfProgram};
+ghost use Rattle.xw_words.specs.Limits.{longest_text};
 
 use crate::kernels::kernel_of_text;
 use crate::shown::Page;
@@ -14,7 +15,7 @@ use xc_kernel::Kernel;
 /// The rule that a text breaks and its place; or that it is accepted, and how many roots and instances of functions its kernel
 /// has.
 pub fn put_needs(page: &mut Page, alloc: Global, text: &[u8])
-    requires { length text.now ≤ 4194304 }
+    requires { length text.now ≤ longest_text }
 {
     if let Some(kernel) = kernel_of_text(page, alloc, text) {
         put_judged(page, alloc, kernel);

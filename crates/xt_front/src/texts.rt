@@ -7,6 +7,7 @@ ghost use Rattle.xc_tree.specs.Derives.{deepest};
 ghost use Rattle.xc_tree.specs.Programs.{IsParsed};
 ghost use Rattle.xc_tree.specs.Trees.{program_of};
 ghost use Rattle.xc_tree.specs.Types.Named.{named_of};
+ghost use Rattle.xw_words.specs.Limits.{longest_text};
 
 use crate::shown::Page;
 use std::alloc::Global;
@@ -22,7 +23,7 @@ pub const MOST: usize = 4_194_304;
 
 /// The program that a text is with the types of its expressions, if it breaks no rule up to 508.
 pub fn typed(alloc: Global, text: &[u8]) -> Option<Typed>
-    requires { length text.now ≤ 4194304 }
+    requires { length text.now ≤ longest_text }
     ensures typed { IfSome result (λ typed. IsTyped (program_of typed.named.tree)
         (named_of typed.named) typed.unsigned_at) }
     ensures shallow { IfSome result
@@ -40,7 +41,7 @@ pub fn typed(alloc: Global, text: &[u8]) -> Option<Typed>
 
 /// The tree of a text, if it has one.
 pub fn tree_of(alloc: Global, text: &[u8]) -> Option<Tree>
-    requires { length text.now ≤ 4194304 }
+    requires { length text.now ≤ longest_text }
     ensures parsed { IfSome result (λ tree. IsParsed (program_of tree)) }
     ensures text { IfSome result (λ tree. IsOfText (program_of tree)) }
     ensures shallow { IfSome result (λ tree. depth.of_program (program_of tree) ≤ deepest) }

@@ -1,6 +1,7 @@
 //! The types of a text's expressions.
 
 ghost use Rattle.std.specs.Prelude.{◌≤◌, length};
+ghost use Rattle.xw_words.specs.Limits.{longest_text};
 
 use crate::shown::Page;
 use crate::texts::{put_broken, tree_of, typed};
@@ -10,7 +11,7 @@ use xc_types::{TypeErr, check};
 
 /// `ok` for a text that breaks no rule of types and shapes, or else the first that it breaks and where.
 pub fn put_verdict(page: &mut Page, alloc: Global, text: &[u8])
-    requires { length text.now ≤ 4194304 }
+    requires { length text.now ≤ longest_text }
 {
     let Some(tree) = tree_of(alloc, text) else {
         return page.put("no names");
@@ -27,7 +28,7 @@ pub fn put_verdict(page: &mut Page, alloc: Global, text: &[u8])
 
 /// For each node of a text's expressions `u` where it is `unsigned`, else `i`; or `none` where it has no types.
 pub fn put_types(page: &mut Page, alloc: Global, text: &[u8])
-    requires { length text.now ≤ 4194304 }
+    requires { length text.now ≤ longest_text }
 {
     match typed(alloc, text) {
         Some(typed) => put_letters(page, typed.unsigned_at.as_slice()),

@@ -7,6 +7,7 @@ ghost use Rattle.xc_tree.specs.Derives.{deepest};
 ghost use Rattle.xc_tree.specs.Programs.{IsParsed};
 ghost use Rattle.xc_tree.specs.Trees.{program_of};
 ghost use Rattle.xc_tree.specs.Types.Named.{named_of};
+ghost use Rattle.xw_io.specs.Outside.{max_file};
 
 use std::alloc::Global;
 use xc_disjoint::{Checked, disjoint};
@@ -22,7 +23,7 @@ const MOST: usize = 4_194_304;
 
 /// The checked kernel of a text, if it breaks no rule and memory wasn't wanting.
 pub fn checked(alloc: Global, text: &[u8]) -> Option<Checked>
-    requires { length text.now ≤ 4194304 }
+    requires { length text.now ≤ max_file }
 {
     let typed = typed(alloc, text)?;
     let Ok(kernel) = flatten(alloc, &typed) else {
@@ -36,7 +37,7 @@ pub fn checked(alloc: Global, text: &[u8]) -> Option<Checked>
 
 /// The program that a text is with the types of its expressions, if it breaks no rule up to 508.
 fn typed(alloc: Global, text: &[u8]) -> Option<Typed>
-    requires { length text.now ≤ 4194304 }
+    requires { length text.now ≤ max_file }
     ensures typed { IfSome result (λ typed. IsTyped (program_of typed.named.tree)
         (named_of typed.named) typed.unsigned_at) }
     ensures shallow { IfSome result
@@ -54,7 +55,7 @@ fn typed(alloc: Global, text: &[u8]) -> Option<Typed>
 
 /// The tree of a text, if it has one.
 fn tree_of(alloc: Global, text: &[u8]) -> Option<Tree>
-    requires { length text.now ≤ 4194304 }
+    requires { length text.now ≤ max_file }
     ensures parsed { IfSome result (λ tree. IsParsed (program_of tree)) }
     ensures text { IfSome result (λ tree. IsOfText (program_of tree)) }
     ensures shallow { IfSome result (λ tree. depth.of_program (program_of tree) ≤ deepest) }

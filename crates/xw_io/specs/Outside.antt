@@ -1,5 +1,6 @@
 -- What shelves and sinks promise.
 use Rattle.std.specs.Prelude.{◌≡◌, ◌⊎◌, ◌<◌, ◌≤◌, ◌+◌, ◌^◌, ℕ, List, [], ◌∷◌, ◌++◌, length, take, Option, Some, None, if◌then◌else◌, bytes_eq}
+use Rattle.xw_words.specs.Limits.{longest_text}
 use Rattle.xw_io.specs.declared.file.File.{File}
 use Rattle.xw_io.specs.declared.shelf.LoadErr.{LoadErr}
 use Rattle.xw_io.specs.declared.shelf.LoadErr.TheVariants.{Missing, TooLong, Failed, Memory}
@@ -22,7 +23,7 @@ WhereTold (Some x) P = P x
 
 -- the most bytes that a file may have
 abbrev pub max_file : ℕ
-max_file = 4194304
+max_file = longest_text
 
 -- the text is what the named file has, and no longer than a file may be
 pub record IsFileOf (files : Option (List File)) (name text : List ℕ) : Type 0 where

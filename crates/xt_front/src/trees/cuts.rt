@@ -1,6 +1,7 @@
 //! What is in front of a program's end.
 
 ghost use Rattle.std.specs.Prelude.{◌≤◌, length};
+ghost use Rattle.xw_words.specs.Limits.{longest_text};
 
 use crate::shown::Page;
 use crate::trees::refusals::{Verdict, judged, put_judged};
@@ -9,7 +10,7 @@ use std::alloc::Global;
 /// After how many words of a text, each with a blank behind it, it is a program. All else that is in front of its end begins
 /// one, so it breaks 201 at its end: where it doesn't, what it breaks stands behind the number.
 pub fn put_programs(page: &mut Page, alloc: Global, text: &[u8])
-    requires { length text.now ≤ 4194304 }
+    requires { length text.now ≤ longest_text }
 {
     put_cut(page, alloc, 0, b"");
     let mut words = 0u32;
@@ -23,7 +24,7 @@ pub fn put_programs(page: &mut Page, alloc: Global, text: &[u8])
 
 /// Puts the number of these first words of a text, unless they begin a program.
 fn put_cut(page: &mut Page, alloc: Global, words: u32, begun: &[u8])
-    requires { length begun.now ≤ 4194304 }
+    requires { length begun.now ≤ longest_text }
 {
     let judged = judged(alloc, begun);
     if begins_one(judged, begun.len()) {

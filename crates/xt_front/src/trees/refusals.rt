@@ -1,6 +1,7 @@
 //! The rules of the grammar.
 
 ghost use Rattle.std.specs.Prelude.{◌≤◌, length};
+ghost use Rattle.xw_words.specs.Limits.{longest_text};
 
 use crate::shown::Page;
 use crate::texts::{MOST, put_broken};
@@ -22,7 +23,7 @@ pub enum Verdict {
 
 /// The rule that a text's tokens break, and where; or `a program`, or what else is the matter.
 pub fn put_refusal(page: &mut Page, alloc: Global, text: &[u8])
-    requires { length text.now ≤ 4194304 }
+    requires { length text.now ≤ longest_text }
 {
     put_judged(page, judged(alloc, text));
 }
@@ -38,7 +39,7 @@ pub fn put_judged(page: &mut Page, judged: Verdict) {
 
 /// What the parser says of a text.
 pub fn judged(alloc: Global, text: &[u8]) -> Verdict
-    requires { length text.now ≤ 4194304 }
+    requires { length text.now ≤ longest_text }
 {
     let Ok(toks) = lex(alloc, text) else {
         return Verdict::Unread("no tokens");
