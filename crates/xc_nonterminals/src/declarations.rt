@@ -2,7 +2,7 @@
 
 ghost use Rattle.std.specs.Prelude.{◌≡◌, ℕ, ◌+◌, ◌^◌, ◌<◌, ◌≤◌, length, option_map, false, [], ◌∷◌, IsTrue, IfOk, IfErr, IfSome, IfNone};
 ghost use Rattle.xc_tree.specs.Symbol as symbol;
-ghost use Rattle.xc_tree.specs.Symbol.{key, a_name, a_word, an_array};
+ghost use Rattle.xc_tree.specs.Symbol.{a_name, a_word, an_array};
 ghost use Rattle.xc_tree.specs.Grammar as grammar;
 ghost use Rattle.xc_tree.specs.Trees as trees;
 ghost use Rattle.xc_nonterminals.specs.Follows.{OneOf};
@@ -10,6 +10,7 @@ ghost use Rattle.xc_nonterminals.specs.Follows as follows;
 ghost use Rattle.xc_nonterminals.specs.Reading.{Reads, Unfit};
 ghost use Rattle.xc_nonterminals.specs.Stops.{Stopped};
 ghost use Rattle.xc_nonterminals.specs.Parts.{Adds, Declares, Names, NoName, resource_kind};
+ghost use Rattle.xc_tree.specs.Terminals as terminal;
 
 use crate::expected::Numeral;
 use crate::parser::{Parser, Read};
@@ -56,7 +57,8 @@ impl<'a> Parser<'a> {
     /// A declaration of channels or timers.
     fn resource_declaration(&self, at: usize) -> Result<Read<Stmt>, Stop>
         requires short { length self.now.toks.now < 2 ^ 32 }
-        requires begins { OneOf self.now.toks.now at (key 2 ∷ key 24 ∷ []) }
+        requires begins {
+            OneOf self.now.toks.now at (terminal.chan_word ∷ terminal.timer_word ∷ []) }
         ensures bounds { IfOk result (λ r. (at < r.end) × (r.end ≤ length self.now.toks.now)) }
         ensures read { IfOk result (λ r. (room : ℕ) → 1 ≤ room →
             Reads self.now.toks.now room symbol.decl at r.end (trees.statement_of r.value)) }
@@ -95,7 +97,8 @@ impl<'a> Parser<'a> {
     fn word_declaration(&self, at: usize, room: u32) -> Result<Read<Stmt>, Stop>
         requires short { length self.now.toks.now < 2 ^ 32 }
         requires room { 1 ≤ room }
-        requires begins { OneOf self.now.toks.now at (key 11 ∷ key 26 ∷ []) }
+        requires begins {
+            OneOf self.now.toks.now at (terminal.int_word ∷ terminal.unsigned_word ∷ []) }
         ensures bounds { IfOk result (λ r. (at < r.end) × (r.end ≤ length self.now.toks.now)) }
         ensures read { IfOk result
             (λ r. Reads self.now.toks.now room symbol.decl at r.end (trees.statement_of r.value)) }

@@ -11,6 +11,7 @@ ghost use Rattle.xc_nonterminals.specs.RowReading.{ReadsRow, StoppedRow};
 ghost use Rattle.xc_nonterminals.specs.Rounds.{StopsMaybe, StopsStart, ReadsStart, ReadsParts, NoType};
 ghost use Rattle.xc_nonterminals.specs.Stops.{Stopped};
 ghost use Rattle.xc_nonterminals.specs.Tails.{do_row};
+ghost use Rattle.xc_tree.specs.Terminals as terminal;
 
 use crate::declarations::variable;
 use crate::parser::{Parser, Read};
@@ -37,7 +38,7 @@ impl<'a> Parser<'a> {
     #[cycle(statement)]
     pub fn while_loop(&self, at: usize, room: u32) -> Result<Read<Stmt>, Stop>
         requires short { length self.now.toks.now < 2 ^ 32 }
-        requires word { StandsAt self.now.toks.now at (symbol.key 29) }
+        requires word { StandsAt self.now.toks.now at terminal.while_word }
         ensures bounds { IfOk result (λ r. (at < r.end) × (r.end ≤ length self.now.toks.now)) }
         ensures read { IfOk result (λ r. Reads self.now.toks.now
             (room + 1) symbol.statement at r.end (trees.statement_of r.value)) }
@@ -56,7 +57,7 @@ impl<'a> Parser<'a> {
     #[cycle(statement)]
     pub fn do_loop(&self, at: usize, room: u32) -> Result<Read<Stmt>, Stop>
         requires short { length self.now.toks.now < 2 ^ 32 }
-        requires word { StandsAt self.now.toks.now at (symbol.key 6) }
+        requires word { StandsAt self.now.toks.now at terminal.do_word }
         ensures bounds { IfOk result (λ r. (at < r.end) × (r.end ≤ length self.now.toks.now)) }
         ensures read { IfOk result (λ r. Reads self.now.toks.now
             (room + 1) symbol.statement at r.end (trees.statement_of r.value)) }
@@ -92,7 +93,7 @@ impl<'a> Parser<'a> {
     #[cycle(statement)]
     pub fn for_loop(&self, at: usize, room: u32) -> Result<Read<Stmt>, Stop>
         requires short { length self.now.toks.now < 2 ^ 32 }
-        requires word { StandsAt self.now.toks.now at (symbol.key 8) }
+        requires word { StandsAt self.now.toks.now at terminal.for_word }
         ensures bounds { IfOk result (λ r. (at < r.end) × (r.end ≤ length self.now.toks.now)) }
         ensures read { IfOk result (λ r. Reads self.now.toks.now
             (room + 1) symbol.statement at r.end (trees.statement_of r.value)) }
@@ -110,7 +111,7 @@ impl<'a> Parser<'a> {
     /// What stands between the word of a `for` and its body, from the word on.
     fn for_parts(&self, at: usize, room: u32) -> Result<Read<Parts>, Stop>
         requires short { length self.now.toks.now < 2 ^ 32 }
-        requires word { StandsAt self.now.toks.now at (symbol.key 8) }
+        requires word { StandsAt self.now.toks.now at terminal.for_word }
         ensures bounds { IfOk result (λ r. (at < r.end) × (r.end ≤ length self.now.toks.now)) }
         ensures held { IfOk result (λ r. at + r.value.held ≤ r.end) }
         ensures read { IfOk result (λ r. ReadsParts self.now.toks.now room at r.end r.value) }

@@ -4,7 +4,6 @@ ghost use Rattle.std.specs.Prelude.{◌≡◌, ℕ, ◌+◌, ◌^◌, ◌<◌, �
 ghost use Rattle.xw_words.specs.declared.pos.Pos.{Pos};
 ghost use Rattle.xc_tree.specs.Plain as plain;
 ghost use Rattle.xc_tree.specs.Symbol as symbol;
-ghost use Rattle.xc_tree.specs.Symbol.{key};
 ghost use Rattle.xc_tree.specs.Trees as trees;
 ghost use Rattle.xc_nonterminals.specs.Counting.{ReadsCounts, bound_row, step_row};
 ghost use Rattle.xc_nonterminals.specs.Follows.{StandsAt};
@@ -12,6 +11,7 @@ ghost use Rattle.xc_nonterminals.specs.Reading.{Reads};
 ghost use Rattle.xc_nonterminals.specs.RowReading.{ReadsRow, StoppedRow};
 ghost use Rattle.xc_nonterminals.specs.Stops.{Stopped};
 ghost use Rattle.xc_nonterminals.specs.Values.{numeral_of};
+ghost use Rattle.xc_tree.specs.Terminals as terminal;
 
 use crate::expected::Numeral;
 use crate::parser::{Parser, Read};
@@ -51,7 +51,7 @@ impl<'a> Parser<'a> {
     #[cycle(statement)]
     pub fn par(&self, at: usize, room: u32) -> Result<Read<Stmt>, Stop>
         requires short { length self.now.toks.now < 2 ^ 32 }
-        requires word { StandsAt self.now.toks.now at (key 15) }
+        requires word { StandsAt self.now.toks.now at terminal.par_word }
         ensures bounds { IfOk result (λ r. (at < r.end) × (r.end ≤ length self.now.toks.now)) }
         ensures read { IfOk result (λ r. Reads self.now.toks.now
             (room + 1) symbol.statement at r.end (trees.statement_of r.value)) }
@@ -103,8 +103,8 @@ impl<'a> Parser<'a> {
     #[cycle(statement)]
     fn replicated(&self, at: usize, room: u32) -> Result<Read<Stmt>, Stop>
         requires short { length self.now.toks.now < 2 ^ 32 }
-        requires word { StandsAt self.now.toks.now at (key 15) }
-        requires bracket { StandsAt self.now.toks.now (at + 1) (symbol.sym 0) }
+        requires word { StandsAt self.now.toks.now at terminal.par_word }
+        requires bracket { StandsAt self.now.toks.now (at + 1) terminal.paren }
         ensures bounds { IfOk result (λ r. (at < r.end) × (r.end ≤ length self.now.toks.now)) }
         ensures read { IfOk result (λ r. Reads self.now.toks.now
             (room + 1) symbol.statement at r.end (trees.statement_of r.value)) }
@@ -133,8 +133,8 @@ impl<'a> Parser<'a> {
     /// What stands between the word of a replicated `par` and its branch, from the word on.
     fn counts(&self, at: usize) -> Result<Read<Counts>, Stop>
         requires short { length self.now.toks.now < 2 ^ 32 }
-        requires word { StandsAt self.now.toks.now at (key 15) }
-        requires bracket { StandsAt self.now.toks.now (at + 1) (symbol.sym 0) }
+        requires word { StandsAt self.now.toks.now at terminal.par_word }
+        requires bracket { StandsAt self.now.toks.now (at + 1) terminal.paren }
         ensures bounds { IfOk result (λ r. (at < r.end) × (r.end ≤ length self.now.toks.now)) }
         ensures read { IfOk result (λ r. ReadsCounts self.now.toks.now at r.end r.value) }
         ensures stopped { IfErr result (λ e. (room : ℕ) →

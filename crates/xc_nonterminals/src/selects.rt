@@ -4,13 +4,14 @@ ghost use Rattle.std.specs.Prelude.{◌≡◌, ℕ, ◌+◌, ◌^◌, ◌<◌, �
 ghost use Rattle.xw_words.specs.declared.pos.Pos.{Pos};
 ghost use Rattle.xc_tree.specs.Plain as plain;
 ghost use Rattle.xc_tree.specs.Symbol as symbol;
-ghost use Rattle.xc_tree.specs.Symbol.{sym, key, a_name};
+ghost use Rattle.xc_tree.specs.Symbol.{a_name};
 ghost use Rattle.xc_tree.specs.Trees as trees;
 ghost use Rattle.xc_nonterminals.specs.Follows.{OneOf, StandsAt};
 ghost use Rattle.xc_nonterminals.specs.Reading.{Reads};
 ghost use Rattle.xc_nonterminals.specs.RowReading.{ReadsRow, StoppedRow};
 ghost use Rattle.xc_nonterminals.specs.CaseParts.{transfers, awaited, event_row, body_row};
 ghost use Rattle.xc_nonterminals.specs.Stops.{Stopped};
+ghost use Rattle.xc_tree.specs.Terminals as terminal;
 
 use crate::pars::Holder;
 use crate::parser::{Parser, Read};
@@ -34,7 +35,7 @@ impl<'a> Parser<'a> {
     #[cycle(statement)]
     pub fn select(&self, at: usize, room: u32) -> Result<Read<Stmt>, Stop>
         requires short { length self.now.toks.now < 2 ^ 32 }
-        requires word { StandsAt self.now.toks.now at (key 20) }
+        requires word { StandsAt self.now.toks.now at terminal.select_word }
         ensures bounds { IfOk result (λ r. (at < r.end) × (r.end ≤ length self.now.toks.now)) }
         ensures read { IfOk result (λ r. Reads self.now.toks.now
             (room + 1) symbol.statement at r.end (trees.statement_of r.value)) }
@@ -91,7 +92,7 @@ impl<'a> Parser<'a> {
     #[cycle(statement)]
     fn default_case(&self, at: usize, room: u32) -> Result<Holder<Case>, Stop>
         requires short { length self.now.toks.now < 2 ^ 32 }
-        requires word { StandsAt self.now.toks.now at (key 5) }
+        requires word { StandsAt self.now.toks.now at terminal.default_word }
         ensures bounds { IfOk result (λ r. (at < r.end) × (r.end ≤ length self.now.toks.now)) }
         ensures holds { IfOk result
             (λ r. (r.held ≡ plain.case_tokens (trees.case_of r.value)) × (at + r.held ≤ r.end)) }

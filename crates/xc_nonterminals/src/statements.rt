@@ -11,6 +11,8 @@ ghost use Rattle.xc_nonterminals.specs.Begun.{token_of, assigning};
 ghost use Rattle.xc_nonterminals.specs.Follows.{OneOf, StandsAt, has, begins_statement};
 ghost use Rattle.xc_nonterminals.specs.Reading.{Reads};
 ghost use Rattle.xc_nonterminals.specs.Stops.{Stopped};
+ghost use Rattle.xc_tree.specs.Terminals as terminal;
+ghost use Rattle.xc_tree.specs.Words as words;
 
 use crate::parser::{Parser, Read};
 use crate::stop::Stop;
@@ -138,9 +140,9 @@ impl<'a> Parser<'a> {
         requires short { length self.now.toks.now < 2 ^ 32 }
         requires at { at ≤ length self.now.toks.now }
         ensures bounds { IfOk result (λ r. (at < r.end) × (r.end ≤ length self.now.toks.now)) }
-        ensures read { IfOk result (λ r. StandsAt self.now.toks.now at (sym 2) → Reads
+        ensures read { IfOk result (λ r. StandsAt self.now.toks.now at terminal.brace → Reads
             self.now.toks.now (room + 1) symbol.statement at r.end (trees.statement_of r.value)) }
-        ensures stopped { IfErr result (λ e. StandsAt self.now.toks.now at (sym 2) →
+        ensures stopped { IfErr result (λ e. StandsAt self.now.toks.now at terminal.brace →
             Stopped self.now.toks.now (room + 1) symbol.statement at e) }
         ensures body { IfOk result (λ r. Reads self.now.toks.now (room + 1) symbol.body at r.end
             (trees.statement_of r.value)) }
@@ -197,7 +199,8 @@ impl<'a> Parser<'a> {
     #[cycle(statement)]
     fn transaction(&self, at: usize, is_master: bool, room: u32) -> Result<Read<Stmt>, Stop>
         requires short { length self.now.toks.now < 2 ^ 32 }
-        requires word { StandsAt self.now.toks.now at (key (if is_master then 12 else 21)) }
+        requires word { StandsAt self.now.toks.now at
+            (key (if is_master then words.master_word else words.slave_word)) }
         ensures bounds { IfOk result (λ r. (at < r.end) × (r.end ≤ length self.now.toks.now)) }
         ensures read { IfOk result (λ r. Reads self.now.toks.now
             (room + 1) symbol.statement at r.end (trees.statement_of r.value)) }
@@ -244,7 +247,7 @@ impl<'a> Parser<'a> {
     fn call_statement(&self, at: usize, room: u32) -> Result<Read<Stmt>, Stop>
         requires short { length self.now.toks.now < 2 ^ 32 }
         requires name { StandsAt self.now.toks.now at a_name }
-        requires open { StandsAt self.now.toks.now (at + 1) (sym 0) }
+        requires open { StandsAt self.now.toks.now (at + 1) terminal.paren }
         ensures bounds { IfOk result (λ r. (at < r.end) × (r.end ≤ length self.now.toks.now)) }
         ensures read { IfOk result (λ r. Reads self.now.toks.now
             (room + 1) symbol.statement at r.end (trees.statement_of r.value)) }
@@ -259,7 +262,8 @@ impl<'a> Parser<'a> {
     /// `break ;`, or else `continue ;`, from the word on.
     fn jump(&self, at: usize, is_break: bool) -> Result<Read<Stmt>, Stop>
         requires short { length self.now.toks.now < 2 ^ 32 }
-        requires word { StandsAt self.now.toks.now at (key (if is_break then 0 else 4)) }
+        requires word { StandsAt self.now.toks.now at
+            (key (if is_break then words.break_word else words.continue_word)) }
         ensures bounds { IfOk result (λ r. (at < r.end) × (r.end ≤ length self.now.toks.now)) }
         ensures read { IfOk result (λ r. (room : ℕ) → Reads self.now.toks.now
             (room + 1) symbol.statement at r.end (trees.statement_of r.value)) }
@@ -277,7 +281,7 @@ impl<'a> Parser<'a> {
     /// behind it.
     fn return_statement(&self, at: usize, room: u32) -> Result<Read<Stmt>, Stop>
         requires short { length self.now.toks.now < 2 ^ 32 }
-        requires word { StandsAt self.now.toks.now at (key 19) }
+        requires word { StandsAt self.now.toks.now at terminal.return_word }
         ensures bounds { IfOk result (λ r. (at < r.end) × (r.end ≤ length self.now.toks.now)) }
         ensures read { IfOk result (λ r. Reads self.now.toks.now
             (room + 1) symbol.statement at r.end (trees.statement_of r.value)) }
@@ -303,7 +307,7 @@ impl<'a> Parser<'a> {
     #[cycle(statement)]
     fn conditional(&self, at: usize, room: u32) -> Result<Read<Stmt>, Stop>
         requires short { length self.now.toks.now < 2 ^ 32 }
-        requires word { StandsAt self.now.toks.now at (key 9) }
+        requires word { StandsAt self.now.toks.now at terminal.if_word }
         ensures bounds { IfOk result (λ r. (at < r.end) × (r.end ≤ length self.now.toks.now)) }
         ensures read { IfOk result (λ r. Reads self.now.toks.now
             (room + 1) symbol.statement at r.end (trees.statement_of r.value)) }
@@ -362,16 +366,17 @@ fn first_by_word(word: u8) -> Option<First>
 
 /// Whether a token that an output can go on with behind a name stands at a place.
 fn sends(toks: &[Tok], at: usize) -> bool
-    ensures yes { IsTrue result → OneOf toks.now at (sym 24 ∷ sym 23 ∷ []) }
-    ensures no { (result ≡ false) → OneOf toks.now at (sym 24 ∷ sym 23 ∷ []) → ⊥ }
+    ensures yes { IsTrue result → OneOf toks.now at (terminal.sends ∷ terminal.at_sign ∷ []) }
+    ensures no { (result ≡ false) → OneOf toks.now at (terminal.sends ∷ terminal.at_sign ∷ []) → ⊥ }
 {
     is_symbol(toks, at, SENDS) || is_symbol(toks, at, AT_SIGN)
 }
 
 /// Whether a token that an input can go on with behind a name stands at a place.
 fn receives(toks: &[Tok], at: usize) -> bool
-    ensures yes { IsTrue result → OneOf toks.now at (sym 25 ∷ key 28 ∷ []) }
-    ensures no { (result ≡ false) → OneOf toks.now at (sym 25 ∷ key 28 ∷ []) → ⊥ }
+    ensures yes { IsTrue result → OneOf toks.now at (terminal.receives ∷ terminal.when_word ∷ []) }
+    ensures no { (result ≡ false) →
+        OneOf toks.now at (terminal.receives ∷ terminal.when_word ∷ []) → ⊥ }
 {
     is_symbol(toks, at, RECEIVES) || is_word(toks, at, WHEN_WORD)
 }

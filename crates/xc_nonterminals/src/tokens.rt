@@ -4,7 +4,7 @@ ghost use Rattle.xw_words.specs.declared.pos.Pos.{Pos};
 ghost use Rattle.xc_tree.specs.Derives.{On};
 ghost use Rattle.std.specs.Prelude.{[], ◌∷◌};
 ghost use Rattle.xc_tree.specs.Symbol as symbol;
-ghost use Rattle.xc_tree.specs.Symbol.{sym, key, a_name};
+ghost use Rattle.xc_tree.specs.Symbol.{a_name};
 ghost use Rattle.xc_nonterminals.specs.Follows.{OneOf};
 ghost use Rattle.xc_nonterminals.specs.Reading.{Reads};
 ghost use Rattle.xc_nonterminals.specs.Stops.{Stopped};
@@ -14,6 +14,7 @@ ghost use Rattle.xc_nonterminals.specs.Levels.{IsOperator, NoOperator};
 ghost use Rattle.xc_nonterminals.specs.Levels as levels;
 ghost use Rattle.xc_nonterminals.specs.Operands.{IsType, IsCast, IsBracket};
 ghost use Rattle.xc_tree.specs.Symbol.{Marked};
+ghost use Rattle.xc_tree.specs.Terminals as terminal;
 
 use xc_tree::symbols::{BRACKET, PAREN, QUESTION};
 use xc_tree::words::{INT_WORD, UNSIGNED_WORD};
@@ -79,8 +80,10 @@ pub fn is_bracket(toks: &[Tok], at: usize) -> bool
 /// Whether `int` or `unsigned` stands at a place.
 pub fn begins_type(toks: &[Tok], at: usize) -> bool
     ensures within { IsTrue result → at < length toks.now }
-    ensures yes { IsTrue result → OneOf toks.now at (key 11 ∷ key 26 ∷ []) }
-    ensures no { (result ≡ false) → OneOf toks.now at (key 11 ∷ key 26 ∷ []) → ⊥ }
+    ensures yes { IsTrue result →
+        OneOf toks.now at (terminal.int_word ∷ terminal.unsigned_word ∷ []) }
+    ensures no { (result ≡ false) →
+        OneOf toks.now at (terminal.int_word ∷ terminal.unsigned_word ∷ []) → ⊥ }
 {
     is_word(toks, at, INT_WORD) || is_word(toks, at, UNSIGNED_WORD)
 }

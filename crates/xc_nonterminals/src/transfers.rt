@@ -3,7 +3,7 @@
 ghost use Rattle.std.specs.Prelude.{◌≡◌, ℕ, ◌+◌, ◌^◌, ◌<◌, ◌≤◌, length, option_map, Some, [], ◌∷◌, IfOk, IfErr};
 ghost use Rattle.xw_words.specs.declared.pos.Pos.{Pos};
 ghost use Rattle.xc_tree.specs.Symbol as symbol;
-ghost use Rattle.xc_tree.specs.Symbol.{sym, key, a_name};
+ghost use Rattle.xc_tree.specs.Symbol.{a_name};
 ghost use Rattle.xc_tree.specs.Plain as plain;
 ghost use Rattle.xc_tree.specs.Trees as trees;
 ghost use Rattle.xc_nonterminals.specs.Follows.{OneOf, StandsAt};
@@ -13,6 +13,7 @@ ghost use Rattle.xc_nonterminals.specs.Stops.{Stopped};
 ghost use Rattle.xc_nonterminals.specs.Parts.{waits_of, received, sent};
 ghost use Rattle.xc_nonterminals.specs.Goals.{ReadsGoal, StopsGoal};
 ghost use Rattle.xc_nonterminals.specs.Tails.{output_row, input_row};
+ghost use Rattle.xc_tree.specs.Terminals as terminal;
 
 use crate::parser::{Parser, Read};
 use crate::stop::Stop;
@@ -70,7 +71,8 @@ impl<'a> Parser<'a> {
     pub fn input_statement(&self, at: usize, room: u32) -> Result<Read<Stmt>, Stop>
         requires short { length self.now.toks.now < 2 ^ 32 }
         requires name { StandsAt self.now.toks.now at a_name }
-        requires begins { OneOf self.now.toks.now (at + 1) (sym 25 ∷ key 28 ∷ []) }
+        requires begins {
+            OneOf self.now.toks.now (at + 1) (terminal.receives ∷ terminal.when_word ∷ []) }
         ensures bounds { IfOk result (λ r. (at < r.end) × (r.end ≤ length self.now.toks.now)) }
         ensures read { IfOk result (λ r. Reads self.now.toks.now
             (room + 1) symbol.statement at r.end (trees.statement_of r.value)) }
@@ -87,7 +89,8 @@ impl<'a> Parser<'a> {
     pub fn transfer(&self, at: usize, room: u32) -> Result<Read<Stmt>, Stop>
         requires short { length self.now.toks.now < 2 ^ 32 }
         requires name { StandsAt self.now.toks.now at a_name }
-        requires begins { OneOf self.now.toks.now (at + 1) (sym 24 ∷ sym 23 ∷ []) }
+        requires begins {
+            OneOf self.now.toks.now (at + 1) (terminal.sends ∷ terminal.at_sign ∷ []) }
         ensures bounds { IfOk result (λ r. (at < r.end) × (r.end ≤ length self.now.toks.now)) }
         ensures read { IfOk result (λ r. Reads self.now.toks.now
             (room + 1) symbol.statement at r.end (trees.statement_of r.value)) }
@@ -108,7 +111,7 @@ impl<'a> Parser<'a> {
     fn timed_transfer(&self, at: usize, room: u32) -> Result<Read<Stmt>, Stop>
         requires short { length self.now.toks.now < 2 ^ 32 }
         requires name { StandsAt self.now.toks.now at a_name }
-        requires begins { StandsAt self.now.toks.now (at + 1) (sym 23) }
+        requires begins { StandsAt self.now.toks.now (at + 1) terminal.at_sign }
         ensures bounds { IfOk result (λ r. (at < r.end) × (r.end ≤ length self.now.toks.now)) }
         ensures read { IfOk result (λ r. Reads self.now.toks.now
             (room + 1) symbol.statement at r.end (trees.statement_of r.value)) }

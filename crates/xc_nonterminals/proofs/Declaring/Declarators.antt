@@ -5,7 +5,7 @@ use Rattle.xc_tree.specs.declared.token.Tok.{Tok}
 use Rattle.xc_tree.specs.declared.token.Kind.TheVariants.{Sym}
 use Rattle.xc_tree.specs.declared.tree.Id.{Id}
 use Rattle.xc_tree.specs.Plain as plain
-use Rattle.xc_tree.specs.Symbol.{sym, a_name, a_number, dv, initial, Numeral, a_word, an_array}
+use Rattle.xc_tree.specs.Symbol.{a_name, a_number, dv, initial, Numeral, a_word, an_array}
 use Rattle.xc_tree.specs.Derives.{On}
 use Rattle.xc_nonterminals.specs.declared.stop.Stop.{Stop}
 use Rattle.xc_nonterminals.specs.Reading.{Reads, Unfit}
@@ -13,6 +13,7 @@ use Rattle.xc_nonterminals.specs.Stops.{Stopped}
 use Rattle.xc_nonterminals.proofs.Rests.Opening.{beginnings, Heads, no_head, one_head, popped}
 use Rattle.xc_nonterminals.proofs.Reading.Paths.{Roomy, begin, over_symbol, lacks_symbol, taken, read, read_all, stops, stops_all, finish, unfit_last}
 use Rattle.xc_nonterminals.proofs.Rests.Unfinished.{unfinished}
+use Rattle.xc_tree.specs.Terminals as terminal
 
 abbrev names : Heads a_name 0 (beginnings dv)
 names = one_head (one_head no_head)
@@ -31,10 +32,10 @@ module _ (toks : List Tok) (room i : ℕ) where
       length_stops e x = stops e (over_symbol name_read on refl) x refl
 
       module _ {k : ℕ} {l : Numeral} (length : Reads toks room a_number (j + 1) k l) where
-        pub close_stops : (e : Stop) → Stopped toks room (sym 5) k e → Stopped toks room dv i e
+        pub close_stops : (e : Stop) → Stopped toks room terminal.end_bracket k e → Stopped toks room dv i e
         close_stops e x = stops e (read (over_symbol name_read on refl) length refl) x refl
 
-        pub array_read : {m : ℕ} {q : Pos} → Reads toks room (sym 5) k m q → Reads toks room dv i m (an_array n l.value l.pos)
+        pub array_read : {m : ℕ} {q : Pos} → Reads toks room terminal.end_bracket k m q → Reads toks room dv i m (an_array n l.value l.pos)
         array_read x = finish (read (read (over_symbol name_read on refl) length refl) x refl) refl
 
     -- a variable
@@ -44,10 +45,10 @@ module _ (toks : List Tok) (room i : ℕ) where
 
       module _ {p : Pos} (on : On toks j (Sym 22) p) where
         pub value_stops : (e : Stop) → Stopped toks room initial j e → Stopped toks room dv i e
-        value_stops e x = stops e (unfinished (taken (lacks_symbol 4 name_read no_bracket) refl) (record { token = sym 22; stands = (p, on); among = refl })) x refl
+        value_stops e x = stops e (unfinished (taken (lacks_symbol 4 name_read no_bracket) refl) (record { token = terminal.equals; stands = (p, on); among = refl })) x refl
 
         pub word_read : {k : ℕ} {r : plain.RightSide} → Reads toks room initial j k r → Reads toks room dv i k (a_word n (Some r))
-        word_read x = finish (read (unfinished (taken (lacks_symbol 4 name_read no_bracket) refl) (record { token = sym 22; stands = (p, on); among = refl })) x refl) refl
+        word_read x = finish (read (unfinished (taken (lacks_symbol 4 name_read no_bracket) refl) (record { token = terminal.equals; stands = (p, on); among = refl })) x refl) refl
 
         pub word_unfit : {k : ℕ} → Unfit toks room initial j k → Unfit toks room dv i k
-        word_unfit u = unfit_last (unfinished (taken (lacks_symbol 4 name_read no_bracket) refl) (record { token = sym 22; stands = (p, on); among = refl })) u refl refl
+        word_unfit u = unfit_last (unfinished (taken (lacks_symbol 4 name_read no_bracket) refl) (record { token = terminal.equals; stands = (p, on); among = refl })) u refl refl

@@ -7,7 +7,7 @@ use Rattle.xc_tree.specs.declared.token.Kind.TheVariants.{Sym, Key}
 use Rattle.xc_tree.specs.declared.tree.Id.{Id}
 use Rattle.xc_tree.specs.declared.tree.Declared.{Declared}
 use Rattle.xc_tree.specs.Plain as plain
-use Rattle.xc_tree.specs.Symbol.{sym, key, a_name, word, decl, dv, Declarator, Value}
+use Rattle.xc_tree.specs.Symbol.{a_name, word, decl, dv, Declarator, Value}
 use Rattle.xc_tree.specs.Grammar.{statement_of, named, declared}
 use Rattle.xc_tree.specs.Derives.{On, extent}
 use Rattle.xc_tree.specs.Trees.{declaration_of}
@@ -23,6 +23,7 @@ use Rattle.xc_nonterminals.proofs.Reading.Loops.{Run, listing, is_row}
 use Rattle.xc_nonterminals.proofs.Reading.Rows.{with_comma, row_stops, row_unfit}
 use Rattle.xc_nonterminals.proofs.Reading.Listed.{Listed, first_listed, next_listed, end_listed}
 use Rattle.xc_nonterminals.proofs.Stating.Marks.{first_of, none_of, at_a_type}
+use Rattle.xc_tree.specs.Terminals as terminal
 
 -- no declaration begins there
 pub decl_refuses : {toks : List Tok} {i : ℕ} (room : ℕ) → (OneOf toks i begins_declaration → ⊥) → Refuses toks room decl i i
@@ -30,13 +31,13 @@ decl_refuses room none = stuck (no_one begins_declaration (all_open refl) none)
 
 -- one begins there, and has no room
 pub decl_deep : {toks : List Tok} {i : ℕ} (room : ℕ) → room ≡ 0 → OneOf toks i begins_declaration → TooDeep toks room decl i i
-decl_deep {toks} {i} room e o = subst (λ r. TooDeep toks r decl i i) (sym' e) (elim (first_of (key 11) (key 26 ∷ key 2 ∷ key 24 ∷ []) o) [
-  | inl x ↦ dead (key 11) (all_open refl) x refl (lit< tt, tt)
-  | inr o ↦ elim (first_of (key 26) (key 2 ∷ key 24 ∷ []) o) [
-    | inl x ↦ dead (key 26) (all_open refl) x refl (lit< tt, tt)
-    | inr o ↦ elim (first_of (key 2) (key 24 ∷ []) o) [
-      | inl x ↦ dead (key 2) (all_open refl) x refl (lit< tt, tt)
-      | inr o ↦ elim (first_of (key 24) [] o) [ inl x ↦ dead (key 24) (all_open refl) x refl (lit< tt, tt) | inr o ↦ absurd (none_of o) ]
+decl_deep {toks} {i} room e o = subst (λ r. TooDeep toks r decl i i) (sym' e) (elim (first_of terminal.int_word (terminal.unsigned_word ∷ terminal.chan_word ∷ terminal.timer_word ∷ []) o) [
+  | inl x ↦ dead terminal.int_word (all_open refl) x refl (lit< tt, tt)
+  | inr o ↦ elim (first_of terminal.unsigned_word (terminal.chan_word ∷ terminal.timer_word ∷ []) o) [
+    | inl x ↦ dead terminal.unsigned_word (all_open refl) x refl (lit< tt, tt)
+    | inr o ↦ elim (first_of terminal.chan_word (terminal.timer_word ∷ []) o) [
+      | inl x ↦ dead terminal.chan_word (all_open refl) x refl (lit< tt, tt)
+      | inr o ↦ elim (first_of terminal.timer_word [] o) [ inl x ↦ dead terminal.timer_word (all_open refl) x refl (lit< tt, tt) | inr o ↦ absurd (none_of o) ]
     ]
   ]
 ])
@@ -47,7 +48,7 @@ row_of_words w = record {
   need = 1;
   above = 1;
   symbol = dv;
-  parts = record { above = 1; symbol = sym 6 } ∷ [];
+  parts = record { above = 1; symbol = terminal.semicolon } ∷ [];
   fits = λ x. true;
   make = λ e x. statement_of e (plain.declare (map (declared w) x.0));
 }
@@ -57,7 +58,7 @@ row_of_resources is_chan = record {
   need = 1;
   above = 1;
   symbol = a_name;
-  parts = record { above = 1; symbol = sym 6 } ∷ [];
+  parts = record { above = 1; symbol = terminal.semicolon } ∷ [];
   fits = λ x. true;
   make = λ e x. statement_of e (plain.declare (map (named (resource_kind is_chan)) x.0));
 }
@@ -66,10 +67,10 @@ abbrev resource_word : Bool → ℕ
 resource_word is_chan = if is_chan then 2 else 24
 
 module _ (toks : List Tok) (room i : ℕ) (h : 1 ≤ room) where
-  pub word_stops : (e : Stop) → OneOf toks i (key 11 ∷ key 26 ∷ []) → Stopped toks (room - 1) word i e → Stopped toks room decl i e
+  pub word_stops : (e : Stop) → OneOf toks i (terminal.int_word ∷ terminal.unsigned_word ∷ []) → Stopped toks (room - 1) word i e → Stopped toks room decl i e
   word_stops e o x = stops e (at_a_type (begin refl h) o refl) x refl
 
-  pub word_begins : {j : ℕ} {w : Bool} → OneOf toks i (key 11 ∷ key 26 ∷ []) → Reads toks (room - 1) word i j w → Roomy toks room decl i j (listing (row_of_words w) [] ∷ [])
+  pub word_begins : {j : ℕ} {w : Bool} → OneOf toks i (terminal.int_word ∷ terminal.unsigned_word ∷ []) → Reads toks (room - 1) word i j w → Roomy toks room decl i j (listing (row_of_words w) [] ∷ [])
   word_begins o x = read (at_a_type (begin refl h) o refl) x refl
 
   pub resource_begins : {p : Pos} (is_chan : Bool) → On toks i (Key (resource_word is_chan)) p → Roomy toks room decl i (i + 1) (listing (row_of_resources is_chan) [] ∷ [])
@@ -82,13 +83,13 @@ module _ (toks : List Tok) (room i : ℕ) (h : 1 ≤ room) where
     declared_stops ys e st (inl x) = row_stops (row_of_words w) ys e st x refl
     declared_stops ys (Deep m) st (inr x) =
         let cut = row_unfit (row_of_words w) ys st x.1 refl in
-        subst (λ n. TooDeep toks room decl i n) (sym' x.2.0) (elim (first_of (sym 7) (sym 6 ∷ []) x.2.1) [
-          | inl y ↦ dead (sym 7) cut y refl (omega arith, tt)
-          | inr o ↦ elim (first_of (sym 6) [] o) [ inl y ↦ dead (sym 6) cut y refl (omega arith, tt) | inr z ↦ absurd (none_of z) ]
+        subst (λ n. TooDeep toks room decl i n) (sym' x.2.0) (elim (first_of terminal.comma (terminal.semicolon ∷ []) x.2.1) [
+          | inl y ↦ dead terminal.comma cut y refl (omega arith, tt)
+          | inr o ↦ elim (first_of terminal.semicolon [] o) [ inl y ↦ dead terminal.semicolon cut y refl (omega arith, tt) | inr z ↦ absurd (none_of z) ]
         ])
     declared_stops ys (Wrong m) st (inr x) =
         let cut = row_unfit (row_of_words w) ys st x.1 refl in
-        subst (λ n. Refuses toks room decl i n) (sym' x.2.0) (stuck (no_one (sym 7 ∷ sym 6 ∷ []) cut x.2.1))
+        subst (λ n. Refuses toks room decl i n) (sym' x.2.0) (stuck (no_one (terminal.comma ∷ terminal.semicolon ∷ []) cut x.2.1))
     declared_stops ys Memory st (inr x) = tt
 
 -- the variables and arrays that were read up to j, each with the comma before it
@@ -125,10 +126,10 @@ module _ (toks : List Tok) (room i : ℕ) (w : Bool) where
   words_next_stops e h s on x = declared_stops toks room i h w s.values e (behind_comma (row_of_words w) s.listed on refl) x
 
   module _ {j : ℕ} {ds : List Declared} (s : Words toks room i j w ds) (none : (p : Pos) → On toks j (Sym 7) p → ⊥) where
-    pub words_close_stops : (e : Stop) → Stopped toks (room - 1) (sym 6) j e → Stopped toks room decl i e
+    pub words_close_stops : (e : Stop) → Stopped toks (room - 1) terminal.semicolon j e → Stopped toks room decl i e
     words_close_stops e x = stops e (end_listed (row_of_words w) s.listed none refl) x refl
 
-    pub words_read : {k : ℕ} {p : Pos} → Reads toks (room - 1) (sym 6) j k p → Reads toks room decl i k (statement_of (extent toks i k) (plain.declare (map declaration_of ds)))
+    pub words_read : {k : ℕ} {p : Pos} → Reads toks (room - 1) terminal.semicolon j k p → Reads toks room decl i k (statement_of (extent toks i k) (plain.declare (map declaration_of ds)))
     words_read {k} x = subst (λ xs. Reads toks room decl i k (statement_of (extent toks i k) (plain.declare xs))) (sym' s.is) (finish (read (end_listed (row_of_words w) s.listed none refl) x refl) refl)
 
 module _ (toks : List Tok) (room i : ℕ) (is_chan : Bool) where
@@ -153,16 +154,16 @@ module _ (toks : List Tok) (room i : ℕ) (is_chan : Bool) where
   resources_next_stops e s on x = row_stops (row_of_resources is_chan) s.names e (behind_comma (row_of_resources is_chan) s.listed on refl) x refl
 
   module _ {j : ℕ} {ds : List Declared} (s : Resources toks room i j is_chan ds) (none : (p : Pos) → On toks j (Sym 7) p → ⊥) where
-    pub resources_close_stops : (e : Stop) → Stopped toks (room - 1) (sym 6) j e → Stopped toks room decl i e
+    pub resources_close_stops : (e : Stop) → Stopped toks (room - 1) terminal.semicolon j e → Stopped toks room decl i e
     resources_close_stops e x = stops e (end_listed (row_of_resources is_chan) s.listed none refl) x refl
 
-    pub resources_read : {k : ℕ} {p : Pos} → Reads toks (room - 1) (sym 6) j k p → Reads toks room decl i k (statement_of (extent toks i k) (plain.declare (map declaration_of ds)))
+    pub resources_read : {k : ℕ} {p : Pos} → Reads toks (room - 1) terminal.semicolon j k p → Reads toks room decl i k (statement_of (extent toks i k) (plain.declare (map declaration_of ds)))
     resources_read {k} x = subst (λ xs. Reads toks room decl i k (statement_of (extent toks i k) (plain.declare xs))) (sym' s.is) (finish (read (end_listed (row_of_resources is_chan) s.listed none refl) x refl) refl)
 
 -- the word of a declaration of channels or timers
-pub word_of_resource : (toks : List Tok) (i : ℕ) (is_chan : Bool) → (IsTrue is_chan → (p : Pos) × On toks i (Key 2) p) → ((is_chan ≡ false) → (p : Pos) → On toks i (Key 2) p → ⊥) → OneOf toks i (key 2 ∷ key 24 ∷ []) → (p : Pos) × On toks i (Key (resource_word is_chan)) p
+pub word_of_resource : (toks : List Tok) (i : ℕ) (is_chan : Bool) → (IsTrue is_chan → (p : Pos) × On toks i (Key 2) p) → ((is_chan ≡ false) → (p : Pos) → On toks i (Key 2) p → ⊥) → OneOf toks i (terminal.chan_word ∷ terminal.timer_word ∷ []) → (p : Pos) × On toks i (Key (resource_word is_chan)) p
 word_of_resource toks i true one none o = one refl
-word_of_resource toks i false one none o = elim (first_of (key 2) (key 24 ∷ []) o) [
+word_of_resource toks i false one none o = elim (first_of terminal.chan_word (terminal.timer_word ∷ []) o) [
   | inl x ↦ absurd (none refl x.0 x.1)
-  | inr q ↦ elim (first_of (key 24) [] q) [ inl x ↦ x | inr z ↦ absurd (none_of z) ]
+  | inr q ↦ elim (first_of terminal.timer_word [] q) [ inl x ↦ x | inr z ↦ absurd (none_of z) ]
 ]

@@ -2,7 +2,7 @@
 use Rattle.std.proofs.Common.{ℕ, List, [], ◌∷◌, Option, refl}
 use Rattle.xc_tree.specs.declared.token.Tok.{Tok}
 use Rattle.xc_tree.specs.Plain as plain
-use Rattle.xc_tree.specs.Symbol.{Symbol, key, item, head}
+use Rattle.xc_tree.specs.Symbol.{Symbol, item, head}
 use Rattle.xc_nonterminals.specs.declared.stop.Stop.{Stop}
 use Rattle.xc_nonterminals.specs.Follows.{OneOf, first}
 use Rattle.xc_nonterminals.specs.Reading.{Reads}
@@ -11,9 +11,10 @@ use Rattle.xc_nonterminals.proofs.Rests.Rests.{Rest}
 use Rattle.xc_nonterminals.proofs.Rests.Opening.{beginnings, without, Heads, no_head, one_head, popped}
 use Rattle.xc_nonterminals.proofs.Derivations.TokenSets.{one_disjoint}
 use Rattle.xc_nonterminals.proofs.Reading.Paths.{Roomy, begin, lacks, read_all, stops_all}
+use Rattle.xc_tree.specs.Terminals as terminal
 
 abbrev of_ports : List Symbol
-of_ports = key 13 ∷ key 10 ∷ key 14 ∷ key 16 ∷ []
+of_ports = terminal.on_word ∷ terminal.in_word ∷ terminal.out_word ∷ terminal.port_word ∷ []
 
 abbrev headed : List (Rest (Option plain.Item))
 headed = without of_ports (beginnings item)

@@ -5,7 +5,7 @@ use Rattle.xc_tree.specs.declared.token.Kind.TheVariants.{Sym}
 use Rattle.xc_tree.specs.declared.tree.Param.{Param}
 use Rattle.xc_tree.specs.declared.tree.Id.{Id}
 use Rattle.xw_words.specs.declared.pos.Pos.{Pos}
-use Rattle.xc_tree.specs.Symbol.{Symbol, sym, key, a_name, word, param}
+use Rattle.xc_tree.specs.Symbol.{Symbol, a_name, word, param}
 use Rattle.xc_tree.specs.Derives.{On}
 use Rattle.xc_nonterminals.specs.declared.stop.Stop.{Stop}
 use Rattle.xc_nonterminals.specs.Follows.{OneOf, follows}
@@ -15,12 +15,13 @@ use Rattle.xc_nonterminals.proofs.Rests.Rests.{Rest}
 use Rattle.xc_nonterminals.proofs.Rests.Opening.{beginnings, without, Heads, no_head, one_head, popped, over}
 use Rattle.xc_nonterminals.proofs.Derivations.TokenSets.{one_disjoint}
 use Rattle.xc_nonterminals.proofs.Reading.Paths.{Roomy, begin, over_symbol, lacks, lacks_symbol, read_all, stops_all}
+use Rattle.xc_tree.specs.Terminals as terminal
 
 abbrev types : List Symbol
-types = key 11 ∷ key 26 ∷ []
+types = terminal.int_word ∷ terminal.unsigned_word ∷ []
 
 abbrev others : List Symbol
-others = key 3 ∷ key 10 ∷ key 14 ∷ key 16 ∷ []
+others = terminal.chanend_word ∷ terminal.in_word ∷ terminal.out_word ∷ terminal.port_word ∷ []
 
 -- the alternatives that begin with a type
 abbrev typed : List (Rest Param)
@@ -34,7 +35,7 @@ abbrev pub behind_type : Bool → List (Rest Param)
 behind_type u = popped typed_heads u
 
 abbrev pub by_value : Bool → List (Rest Param)
-by_value u = without (sym 10 ∷ []) (behind_type u)
+by_value u = without (terminal.ampersand ∷ []) (behind_type u)
 
 abbrev name_heads : (u : Bool) → Heads a_name 0 (by_value u)
 name_heads u = one_head (one_head (one_head no_head))
@@ -44,7 +45,7 @@ abbrev pub behind_name : Bool → Id → List (Rest Param)
 behind_name u n = popped (name_heads u) n
 
 abbrev pub in_brackets : Bool → Id → Pos → List (Rest Param)
-in_brackets u n p = over (follows param) (sym 4) p (behind_name u n)
+in_brackets u n p = over (follows param) terminal.bracket p (behind_name u n)
 
 module _ {toks : List Tok} {at : ℕ} (type : OneOf toks at types) where
   begins_typed : (room : ℕ) → Roomy toks room param at at typed

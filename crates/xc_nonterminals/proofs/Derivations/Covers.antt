@@ -6,6 +6,7 @@ use Rattle.xc_tree.specs.Grammar.{Rule, rules, operators, one_of}
 use Rattle.xc_nonterminals.specs.Follows.{has, first, nullable}
 use Rattle.xc_nonterminals.proofs.Rests.Opening.{within}
 use Rattle.xc_nonterminals.proofs.Derivations.TokenSets.{has_append, has_left, has_right, within_has}
+use Rattle.xc_tree.specs.Terminals as terminal
 
 -- the tokens that some symbols can begin with, and whether they may be no token
 abbrev pub row_firsts : List Symbol → List Symbol
@@ -206,11 +207,11 @@ commas_fits : (s : Symbol) (r : Rule (Value (commas s))) (at : ℕ) → slice_ge
 commas_fits s r zero e =
     let f : record { parts = s ∷ []; fits = λ x. true; nodes = 0; make = λ e x. x.0 ∷ [] } ≡ r = cc in
     subst (λ y. Fits (commas s) y.parts) f (record {
-      first = λ t h. has_left (first s) (if nullable s then sym 7 ∷ [] else []) t (list_first (first s) [] (nullable s) t (λ g. absurd (cc)) h);
+      first = λ t h. has_left (first s) (if nullable s then terminal.comma ∷ [] else []) t (list_first (first s) [] (nullable s) t (λ g. absurd (cc)) h);
       null = λ g. (and_parts (nullable s) true g).0;
     })
 commas_fits s r (suc zero) e =
-    let f : record { parts = s ∷ sym 7 ∷ commas s ∷ []; fits = λ x. true; nodes = 0; make = λ e x. x.0 ∷ x.1.1.0 } ≡ r = cc in
+    let f : record { parts = s ∷ terminal.comma ∷ commas s ∷ []; fits = λ x. true; nodes = 0; make = λ e x. x.0 ∷ x.1.1.0 } ≡ r = cc in
     subst (λ y. Fits (commas s) y.parts) f (record {
       first = λ t h. h;
       null = λ g. (and_parts (nullable s) false g).0;

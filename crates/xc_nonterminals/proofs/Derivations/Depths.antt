@@ -9,6 +9,7 @@ use Rattle.xc_tree.specs.Grammar.{Rule, Extent, rules, one_of, operators, kept, 
 use Rattle.xc_tree.specs.Depth.{of_expression, highest, if_some, of_argument, of_call, of_right, of_timing, of_output, of_target, of_condition, of_input, of_kind, of_declaration, of_place, of_statement, of_action, of_maybe, of_statements, of_branch, of_branches, of_case, of_cases, of_item, of_program}
 use Rattle.xc_tree.specs.Derives.{Room, unlimited, at_most, HasRoom, below, extent, Derives, a_sym, a_key, named as by_name, counted, by_rule, Row, done, next}
 use Rattle.xc_nonterminals.proofs.Rests.Opening.{is_token}
+use Rattle.xc_tree.specs.Terminals as terminal
 
 abbrev pub of_declarator : Declarator → ℕ
 of_declarator (a_word n r) = if_some of_right r
@@ -132,7 +133,7 @@ many_sink : (s : Symbol) → AllSink (highest (depth s)) (rules (many s))
 many_sink s = (λ e x. refl) & (λ e x. let f = first_depth s (many s ∷ []) x.0 x.1 in omega (arith, f)) & none
 
 commas_sink : (s : Symbol) → AllSink (highest (depth s)) (rules (commas s))
-commas_sink s = (λ e x. let f = first_depth s [] x.0 tt in omega (arith, f)) & (λ e x. let f = first_depth s (sym 7 ∷ commas s ∷ []) x.0 x.1 in omega (arith, f)) & none
+commas_sink s = (λ e x. let f = first_depth s [] x.0 tt in omega (arith, f)) & (λ e x. let f = first_depth s (terminal.comma ∷ commas s ∷ []) x.0 x.1 in omega (arith, f)) & none
 
 maybe_sink : (s : Symbol) → AllSink (if_some (depth s)) (rules (maybe s))
 maybe_sink s = (λ e x. refl) & (λ e x. let f = first_depth s [] x.0 tt in omega (arith, f)) & none

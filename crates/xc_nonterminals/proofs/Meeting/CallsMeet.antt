@@ -3,7 +3,7 @@ use Rattle.std.proofs.Common.{◌≡◌, ℕ, ◌+◌, inl, inr, true, false, Li
 use Rattle.xc_tree.specs.declared.token.Tok.{Tok}
 use Rattle.xc_tree.specs.declared.token.Kind.TheVariants.{Sym}
 use Rattle.xc_tree.specs.Plain as plain
-use Rattle.xc_tree.specs.Symbol.{sym, a_name, expr, rhs, call}
+use Rattle.xc_tree.specs.Symbol.{a_name, expr, rhs, call}
 use Rattle.xc_tree.specs.Grammar.{Rule, rules, gives}
 use Rattle.xc_tree.specs.Derives.{On, unlimited}
 use Rattle.xc_nonterminals.specs.Follows.{OneOf, after_expression}
@@ -14,6 +14,7 @@ use Rattle.xc_nonterminals.proofs.Derivations.Lists.{unrow}
 use Rattle.xc_nonterminals.proofs.Meeting.NamesEnd.{name_ends}
 use Rattle.xc_nonterminals.proofs.Derivations.Statures.{By, Tree, derived}
 use Rattle.xc_nonterminals.proofs.Meeting.Meetings.{AllMeet, Meets, Differ, each_meets, rules_meet}
+use Rattle.xc_tree.specs.Terminals as terminal
 
 abbrev by_expression : Rule plain.RightSide
 by_expression = gives (expr ∷ []) (λ (e, u). plain.value e)
@@ -28,11 +29,11 @@ module _ (toks : List Tok) (n : ℕ) where
         let r = unrow y.2 in
         let b = unrow r.2 in
         let name = token_derived {t = a_name} refl r.1 in
-        let paren = token_derived {t = sym 0} refl b.1 in
+        let paren = token_derived {t = terminal.paren} refl b.1 in
         let at = subst (λ z. On toks z (Sym 0) y.0.1.0) name.0 paren.1 in
-        let shut : OneOf toks (i + 1) after_expression → ⊥ = (λ o. let g : false ≡ true = one_is (sym 0) (y.0.1.0, at) o in absurd (cc)) in
+        let shut : OneOf toks (i + 1) after_expression → ⊥ = (λ o. let g : false ≡ true = one_is terminal.paren (y.0.1.0, at) o in absurd (cc)) in
         let end : j ≡ i + 1 = h ∙ name_ends toks i name.1 shut m vs.0 (derived toks n expr i m vs.0 d) in
-        inl (front rhs v (record { token = sym 0; stands = (y.0.1.0, subst (λ z. On toks z (Sym 0) y.0.1.0) (sym' end) at); among = refl }))
+        inl (front rhs v (record { token = terminal.paren; stands = (y.0.1.0, subst (λ z. On toks z (Sym 0) y.0.1.0) (sym' end) at); among = refl }))
     | inr z ↦ absurd z
   ]
 

@@ -2,7 +2,7 @@
 use Rattle.std.proofs.Common.{◌≡◌, ℕ, zero, suc, ◌+◌, ◌≤◌, ◌⊎◌, inl, inr, true, false, List, [], ◌∷◌, Some, None, refl, sym as sym', ap, subst, ◌∙◌, arith}
 use Rattle.xc_tree.specs.declared.token.Tok.{Tok}
 use Rattle.xc_tree.specs.Plain as plain
-use Rattle.xc_tree.specs.Symbol.{Symbol, sym, key, many, maybe, a_name, case, case_item, guard, input, waits, dest, stamp, Value, Values}
+use Rattle.xc_tree.specs.Symbol.{Symbol, many, maybe, a_name, case, case_item, guard, input, waits, dest, stamp, Value, Values}
 use Rattle.xc_tree.specs.Grammar.{rules}
 use Rattle.xc_tree.specs.Terminals.{case_word, default_word, colon, arrow, receives}
 use Rattle.xc_tree.specs.Derives.{unlimited}
@@ -20,10 +20,11 @@ use Rattle.xc_nonterminals.proofs.Meeting.Openers.{no_item}
 use Rattle.xc_nonterminals.proofs.Derivations.Statures.{RowBy, By, Tree, opened_same, derived, derived_row}
 use Rattle.xc_nonterminals.proofs.Meeting.Meetings.{AllMeet, Meets, MeetsRow, Tail, RowMeets, AllOneMeet, row_meets, next_meets, behind_front, tail_among, rules_meet}
 use Rattle.xc_nonterminals.proofs.Meeting.Differing.{told_all}
+use Rattle.xc_tree.specs.Terminals as terminal
 
 -- `break ;`, and statements before it
 abbrev ending : List Symbol
-ending = key 0 ∷ sym 6 ∷ []
+ending = terminal.break_word ∷ terminal.semicolon ∷ []
 
 abbrev items : List Symbol
 items = many case_item ∷ ending
@@ -48,7 +49,7 @@ module _ (toks : List Tok) (n : ℕ) where
 
   not_both : (i j k : ℕ) (vs ws : Values items) → Ends i j vs → More i k ws → ⊥
   not_both i j k vs ws x y =
-      let on = (token_derived {t = key 0} refl (derived toks n (key 0) i x.1.0 vs.1.0 x.1.1)).1 in
+      let on = (token_derived {t = terminal.break_word} refl (derived toks n terminal.break_word i x.1.0 vs.1.0 x.1.1)).1 in
       no_item on (derived toks n case_item i y.0 y.1 y.4)
 
   abbrev Outcome : ℕ → Values items → ℕ → Values items → Type 0

@@ -16,6 +16,7 @@ use Rattle.xc_nonterminals.proofs.Derivations.Lists.{unrow, unend}
 use Rattle.xc_nonterminals.proofs.Valued.Levels.{More, stop, go, split}
 use Rattle.xc_nonterminals.proofs.Valued.Operators.{operator_is, operator_goes_on}
 use Rattle.xc_nonterminals.proofs.Meeting.Openers.{by_opened}
+use Rattle.xc_tree.specs.Terminals as terminal
 
 module _ (toks : List Tok) (i : ℕ) {x : List ℕ} {p : Pos} (name : On toks i (Name x) p) (shut : OneOf toks (i + 1) after_expression → ⊥) where
   closed_at : (k : ℕ) → k ≡ i + 1 → OneOf toks k after_expression → ⊥
@@ -30,7 +31,7 @@ module _ (toks : List Tok) (i : ℕ) {x : List ℕ} {p : Pos} (name : On toks i 
     | inr (inl y) ↦
         let r = unrow y.2 in
         let b = unrow r.2 in
-        absurd (no_symbol r.0 4 (token_derived {t = a_name} refl r.1).0 (token_derived {t = sym 4} refl b.1).1 refl)
+        absurd (no_symbol r.0 4 (token_derived {t = a_name} refl r.1).0 (token_derived {t = terminal.bracket} refl b.1).1 refl)
     | inr (inr z) ↦ absurd z
   ]
 
@@ -53,6 +54,6 @@ module _ (toks : List Tok) (i : ℕ) {x : List ℕ} {p : Pos} (name : On toks i 
     | inr (inl y) ↦
         let r = unrow y.2 in
         let b = unrow r.2 in
-        absurd (no_symbol r.0 9 (level_ends 10 r.0 y.0.0 (omega arith) r.1) (token_derived {t = sym 9} refl b.1).1 refl)
+        absurd (no_symbol r.0 9 (level_ends 10 r.0 y.0.0 (omega arith) r.1) (token_derived {t = terminal.question} refl b.1).1 refl)
     | inr (inr z) ↦ absurd z
   ]

@@ -5,7 +5,7 @@ use Rattle.xw_words.specs.declared.pos.Pos.{Pos}
 use Rattle.xc_tree.specs.declared.token.Tok.{Tok}
 use Rattle.xc_tree.specs.declared.token.Kind.TheVariants.{Key}
 use Rattle.xc_tree.specs.Plain as plain
-use Rattle.xc_tree.specs.Symbol.{Symbol, key, statement, case_item}
+use Rattle.xc_tree.specs.Symbol.{Symbol, statement, case_item}
 use Rattle.xc_tree.specs.Grammar.{Rule, rules}
 use Rattle.xc_tree.specs.Derives.{On, Room, below, Derives}
 use Rattle.xc_nonterminals.specs.Follows.{StandsAt, OneOf, has}
@@ -14,6 +14,7 @@ use Rattle.xc_nonterminals.proofs.Derivations.TokenSets.{one_is}
 use Rattle.xc_nonterminals.proofs.Derivations.Firsts.{row_first, begins_first}
 use Rattle.xc_nonterminals.proofs.Rests.Alternatives.{ByRules, BeginsRules, by_rules}
 use Rattle.xc_nonterminals.proofs.Derivations.Lists.{unrow}
+use Rattle.xc_tree.specs.Terminals as terminal
 
 abbrev keep_rule : {V : Type 0} → Bool → Rule V → List (Rule V) → List (Rule V)
 keep_rule true r rs = r ∷ rs
@@ -52,13 +53,13 @@ module _ (toks : List Tok) (room : Room) (i : ℕ) (t : Symbol) (at : StandsAt t
 
 module _ {toks : List Tok} {i : ℕ} {p : Pos} (on : On toks i (Key 0) p) where
   pub statement_breaks : {room : Room} {j : ℕ} {v : plain.Statement} → Derives toks room statement i j v → plain.is_break v ≡ true
-  statement_breaks {room} {j} {v} d = elim (by_opened toks room i (key 0) (p, on) (rules statement) j v (by_rules toks room statement i j v refl d)) [
+  statement_breaks {room} {j} {v} d = elim (by_opened toks room i terminal.break_word (p, on) (rules statement) j v (by_rules toks room statement i j v refl d)) [
     | inl y ↦ ap plain.is_break y.4
     | inr z ↦ absurd z
   ]
 
   pub no_item : {room : Room} {j : ℕ} {v : plain.Statement} → Derives toks room case_item i j v → ⊥
-  no_item {room} {j} {v} d = elim (by_opened toks room i (key 0) (p, on) (rules case_item) j v (by_rules toks room case_item i j v refl d)) [
+  no_item {room} {j} {v} d = elim (by_opened toks room i terminal.break_word (p, on) (rules case_item) j v (by_rules toks room case_item i j v refl d)) [
     | inl y ↦ let e = statement_breaks (unrow y.2).1 in let f = y.3 in absurd (cc)
     | inr z ↦ absurd z
   ]

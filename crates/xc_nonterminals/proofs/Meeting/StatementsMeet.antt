@@ -4,7 +4,7 @@ use Rattle.std.proofs.lemmas.Bool.{and_parts, not-true}
 use Rattle.xc_tree.specs.declared.token.Tok.{Tok}
 use Rattle.xc_tree.specs.Plain as plain
 use Rattle.xc_tree.specs.Plain.{is_open}
-use Rattle.xc_tree.specs.Symbol.{Symbol, key, a_name, a_number, maybe, place, expr, statement, closed, block_item, case_item, branch, for_start, for_step, Value, Values}
+use Rattle.xc_tree.specs.Symbol.{Symbol, a_name, a_number, maybe, place, expr, statement, closed, block_item, case_item, branch, for_start, for_step, Value, Values}
 use Rattle.xc_tree.specs.Grammar.{Rule, rules, does}
 use Rattle.xc_tree.specs.Terminals.{paren, end_paren, semicolon, equals, below, plus_plus, if_word, else_word, while_word, for_word, int_word, par_word}
 use Rattle.xc_nonterminals.specs.Follows.{OneOf, follows}
@@ -15,6 +15,7 @@ use Rattle.xc_nonterminals.proofs.Derivations.Covers.{row_firsts, row_nullable}
 use Rattle.xc_nonterminals.proofs.Derivations.Statures.{RowBy, By, Tree, opened_same, derived}
 use Rattle.xc_nonterminals.proofs.Meeting.Meetings.{AllMeet, Meets, Tail, is_listed, OneMeets, AllOneMeet, Differ, DifferFrom, AllDiffer, row_meets, behind_front, each_told, each_meets, rules_meet}
 use Rattle.xc_nonterminals.proofs.Meeting.Differing.{differ_from, told_from, told_all}
+use Rattle.xc_tree.specs.Terminals as terminal
 
 -- the last of some symbols, behind each of which a token stands
 abbrev last_of : Symbol → List Symbol → Symbol
@@ -102,10 +103,10 @@ module _ (toks : List Tok) (n : ℕ) (meet : AllMeet toks n) where
       let a = p.3 in
       let c = p.4 in
       let on = (token_derived {t = else_word} refl (derived toks n else_word c.0 c.2.0 p.2.1.0 c.2.1)).1 in
-      let goes : (l : ℕ) → OneOf toks l (key 7 ∷ []) → j ≡ l → IsFront toks statement j v = (λ l o e. record { goes_on = subst (λ z. OneOf toks z (key 7 ∷ [])) (sym' e) o; may = ap is_open x.3 }) in
+      let goes : (l : ℕ) → OneOf toks l (terminal.else_word ∷ []) → j ≡ l → IsFront toks statement j v = (λ l o e. record { goes_on = subst (λ z. OneOf toks z (terminal.else_word ∷ [])) (sym' e) o; may = ap is_open x.3 }) in
       elim (opened_same toks n closed refl m c.0 p.2.0 c.1) [
         | inl z ↦ elim (meet statement refl m a.0 z.1.0 p.1.0 z.0.0 a.1 z.1.1) [
-          | inl g ↦ inl (goes c.0 (record { token = key 7; stands = (p.2.1.0, on); among = refl }) (a.2 ∙ sym' (z.1.2 ∙ g.0)))
+          | inl g ↦ inl (goes c.0 (record { token = terminal.else_word; stands = (p.2.1.0, on); among = refl }) (a.2 ∙ sym' (z.1.2 ∙ g.0)))
           | inr (inl f) ↦ inl (goes a.0 f.goes_on a.2)
           | inr (inr f) ↦ let h = not-true (is_open z.0.0) z.2 in let g : is_open z.0.0 ≡ true = f.may in absurd (cc)
         ]

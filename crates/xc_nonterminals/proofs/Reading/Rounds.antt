@@ -9,7 +9,7 @@ use Rattle.xc_tree.specs.declared.tree.St.{For}
 use Rattle.xc_tree.specs.declared.tree.Stmt.{Stmt}
 use Rattle.xc_tree.specs.Plain as plain
 use Rattle.xc_tree.specs.Plain.{held}
-use Rattle.xc_tree.specs.Symbol.{Symbol, sym, key, a_name, maybe, assign, word, rhs, expr, statement, for_start, for_step, Value}
+use Rattle.xc_tree.specs.Symbol.{Symbol, a_name, maybe, assign, word, rhs, expr, statement, for_start, for_step, Value}
 use Rattle.xc_tree.specs.Grammar.{statement_of, named}
 use Rattle.xc_tree.specs.Derives.{On, Room, Derives, extent}
 use Rattle.xc_tree.specs.Trees as trees
@@ -35,6 +35,7 @@ use Rattle.xc_nonterminals.proofs.Reading.Insides.{inner_reads, inner_stopped, i
 use Rattle.xc_nonterminals.proofs.Reading.InsideRows.{inner_row, inner_row_stopped}
 use Rattle.xc_nonterminals.proofs.Reading.RowSteps.{read_row, stops_row}
 use Rattle.xc_nonterminals.proofs.Stating.Marks.{first_of, none_of, at_a_type}
+use Rattle.xc_tree.specs.Terminals as terminal
 
 -- an assignment holds no statement
 pub assign_holds : {toks : List Tok} {room : Room} {i j : ℕ} {a : plain.Action} → Derives toks room assign i j a → 0 ≡ held a
@@ -55,17 +56,17 @@ module _ (toks : List Tok) (room i : ℕ) where
   step_reads h x = finish (read (begin refl h) x refl) refl
 
   pub start_stops : (e : Stop) → 1 ≤ room → NoType toks i → Stopped toks (left room 1) assign i e → Stopped toks room for_start i e
-  start_stops e h none x = stops e (lacks (key 11 ∷ key 26 ∷ []) (begin refl h) none) x refl
+  start_stops e h none x = stops e (lacks (terminal.int_word ∷ terminal.unsigned_word ∷ []) (begin refl h) none) x refl
 
   pub start_reads : {j : ℕ} {a : plain.Action} → 1 ≤ room → NoType toks i → Reads toks (left room 1) assign i j a → Reads toks room for_start i j (statement_of (extent toks i j) a)
-  start_reads h none x = finish (read (lacks (key 11 ∷ key 26 ∷ []) (begin refl h) none) x refl) refl
+  start_reads h none x = finish (read (lacks (terminal.int_word ∷ terminal.unsigned_word ∷ []) (begin refl h) none) x refl) refl
 
   -- there is no room for an assignment and its target
   pub step_deep : room < 2 → StandsAt toks i a_name → TooDeep toks room for_step i i
   step_deep h at = dead a_name (spread_out (spread_out (all_open refl))) at refl (h, (h, (h, (h, (h, (h, (h, (h, tt))))))))
 
   pub start_deep : room < 2 → NoType toks i → StandsAt toks i a_name → TooDeep toks room for_start i i
-  start_deep h none at = dead a_name (spread_out (spread_out (no_one (key 11 ∷ key 26 ∷ []) (all_open refl) none))) at refl (h, (h, (h, (h, (h, (h, (h, (h, tt))))))))
+  start_deep h none at = dead a_name (spread_out (spread_out (no_one (terminal.int_word ∷ terminal.unsigned_word ∷ []) (all_open refl) none))) at refl (h, (h, (h, (h, (h, (h, (h, (h, tt))))))))
 
   no_name : (StandsAt toks i a_name → ⊥) → OneOf toks i (a_name ∷ []) → ⊥
   no_name none o = elim (first_of a_name [] o) [ inl x ↦ none x | inr x ↦ none_of x ]
@@ -74,17 +75,17 @@ module _ (toks : List Tok) (room i : ℕ) where
   step_wrong none = stuck (no_one (a_name ∷ []) (all_open refl) (no_name none))
 
   pub start_wrong : NoType toks i → (StandsAt toks i a_name → ⊥) → Refuses toks room for_start i i
-  start_wrong no_type none = stuck (no_one (a_name ∷ []) (no_one (key 11 ∷ key 26 ∷ []) (all_open refl) no_type) (no_name none))
+  start_wrong no_type none = stuck (no_one (a_name ∷ []) (no_one (terminal.int_word ∷ terminal.unsigned_word ∷ []) (all_open refl) no_type) (no_name none))
 
   -- a start with a type: a declaration, that there is no room for
-  pub declared_deep : room ≡ 0 → OneOf toks i (key 11 ∷ key 26 ∷ []) → TooDeep toks room for_start i i
-  declared_deep e o = subst (λ r. TooDeep toks r for_start i i) (sym' e) (elim (first_of (key 11) (key 26 ∷ []) o) [
-    | inl x ↦ dead (key 11) (all_open refl) x refl (lit< tt, tt)
-    | inr q ↦ elim (first_of (key 26) [] q) [ inl x ↦ dead (key 26) (all_open refl) x refl (lit< tt, tt) | inr z ↦ absurd (none_of z) ]
+  pub declared_deep : room ≡ 0 → OneOf toks i (terminal.int_word ∷ terminal.unsigned_word ∷ []) → TooDeep toks room for_start i i
+  declared_deep e o = subst (λ r. TooDeep toks r for_start i i) (sym' e) (elim (first_of terminal.int_word (terminal.unsigned_word ∷ []) o) [
+    | inl x ↦ dead terminal.int_word (all_open refl) x refl (lit< tt, tt)
+    | inr q ↦ elim (first_of terminal.unsigned_word [] q) [ inl x ↦ dead terminal.unsigned_word (all_open refl) x refl (lit< tt, tt) | inr z ↦ absurd (none_of z) ]
   ])
 
   -- and that there is room for
-  module _ (h : 1 ≤ room) (o : OneOf toks i (key 11 ∷ key 26 ∷ [])) where
+  module _ (h : 1 ≤ room) (o : OneOf toks i (terminal.int_word ∷ terminal.unsigned_word ∷ [])) where
     pub type_stops : (e : Stop) → Stopped toks (left room 1) word i e → Stopped toks room for_start i e
     type_stops e x = stops e (at_a_type (begin refl h) o refl) x refl
 
@@ -93,10 +94,10 @@ module _ (toks : List Tok) (room i : ℕ) where
       name_stops e x = stops e (read (at_a_type (begin refl h) o refl) type refl) x refl
 
       module _ {k : ℕ} {n : Id} (name : Reads toks (left room 1) a_name j k n) where
-        pub equals_stops : (e : Stop) → Stopped toks (left room 1) (sym 22) k e → Stopped toks room for_start i e
+        pub equals_stops : (e : Stop) → Stopped toks (left room 1) terminal.equals k e → Stopped toks room for_start i e
         equals_stops e x = stops e (read (read (at_a_type (begin refl h) o refl) type refl) name refl) x refl
 
-        module _ {l : ℕ} {p : Pos} (equals : Reads toks (left room 1) (sym 22) k l p) where
+        module _ {l : ℕ} {p : Pos} (equals : Reads toks (left room 1) terminal.equals k l p) where
           pub value_stops : (e : Stop) → Stopped toks (left room 1) rhs l e → Stopped toks room for_start i e
           value_stops e x = stops e (read (read (read (at_a_type (begin refl h) o refl) type refl) name refl) equals refl) x refl
 
@@ -131,18 +132,18 @@ module _ (toks : List Tok) (room i : ℕ) where
 
 -- a `while`
 module _ {toks : List Tok} (room : ℕ) {at : ℕ} {p : Pos} (w : On toks at (Key 29) p) where
-  pub while_open_stops : (e : Stop) → Stopped toks (left (room + 1) 1) (sym 0) (at + 1) e → Stopped toks (room + 1) statement at e
+  pub while_open_stops : (e : Stop) → Stopped toks (left (room + 1) 1) terminal.paren (at + 1) e → Stopped toks (room + 1) statement at e
   while_open_stops e x = stops e (over_word (begin refl (omega arith)) w refl) x refl
 
-  module _ {k : ℕ} {q : Pos} (paren : Reads toks (left (room + 1) 1) (sym 0) (at + 1) k q) where
+  module _ {k : ℕ} {q : Pos} (paren : Reads toks (left (room + 1) 1) terminal.paren (at + 1) k q) where
     pub while_test_stops : (e : Stop) → Stopped toks room expr k e → Stopped toks (room + 1) statement at e
     while_test_stops e x = stops e (read (over_word (begin refl (omega arith)) w refl) paren refl) (inner_stopped toks room expr k e x) refl
 
     module _ {l : ℕ} {c : plain.Expression} (test : Reads toks room expr k l c) where
-      pub while_close_stops : (e : Stop) → Stopped toks (left (room + 1) 1) (sym 1) l e → Stopped toks (room + 1) statement at e
+      pub while_close_stops : (e : Stop) → Stopped toks (left (room + 1) 1) terminal.end_paren l e → Stopped toks (room + 1) statement at e
       while_close_stops e x = stops e (read (read (over_word (begin refl (omega arith)) w refl) paren refl) (inner_reads room test) refl) x refl
 
-      module _ {m : ℕ} {r : Pos} (close : Reads toks (left (room + 1) 1) (sym 1) l m r) where
+      module _ {m : ℕ} {r : Pos} (close : Reads toks (left (room + 1) 1) terminal.end_paren l m r) where
         pub while_body_stops : (e : Stop) → Stopped toks room statement m e → Stopped toks (room + 1) statement at e
         while_body_stops e x = stops_last e (read (read (read (over_word (begin refl (omega arith)) w refl) paren refl) (inner_reads room test) refl) close refl) (inner_stopped toks room statement m e x) refl (λ e x h. h)
 
@@ -174,9 +175,9 @@ module _ {toks : List Tok} (room : ℕ) {at : ℕ} {p : Pos} (w : On toks at (Ke
 
 -- what is open of a `for` behind its word, and behind each part between its brackets
 abbrev behind_for : Pos → List (Rest plain.Statement)
-behind_for p = over (fronts statement) (key 8) p (beginnings statement)
+behind_for p = over (fronts statement) terminal.for_word p (beginnings statement)
 
-abbrev paren_heads : (p : Pos) → Heads (sym 0) 1 (behind_for p)
+abbrev paren_heads : (p : Pos) → Heads terminal.paren 1 (behind_for p)
 paren_heads p = one_head no_head
 
 abbrev behind_paren : Pos → Pos → List (Rest plain.Statement)
@@ -188,7 +189,7 @@ start_heads p q = one_head no_head
 abbrev behind_start : Pos → Pos → Option plain.Statement → List (Rest plain.Statement)
 behind_start p q a = popped (start_heads p q) a
 
-abbrev first_heads : (p q : Pos) (a : Option plain.Statement) → Heads (sym 6) 1 (behind_start p q a)
+abbrev first_heads : (p q : Pos) (a : Option plain.Statement) → Heads terminal.semicolon 1 (behind_start p q a)
 first_heads p q a = one_head no_head
 
 abbrev behind_first : Pos → Pos → Option plain.Statement → Pos → List (Rest plain.Statement)
@@ -200,7 +201,7 @@ test_heads p q a r = one_head no_head
 abbrev behind_test : Pos → Pos → Option plain.Statement → Pos → Option plain.Expression → List (Rest plain.Statement)
 behind_test p q a r c = popped (test_heads p q a r) c
 
-abbrev second_heads : (p q : Pos) (a : Option plain.Statement) (r : Pos) (c : Option plain.Expression) → Heads (sym 6) 1 (behind_test p q a r c)
+abbrev second_heads : (p q : Pos) (a : Option plain.Statement) (r : Pos) (c : Option plain.Expression) → Heads terminal.semicolon 1 (behind_test p q a r c)
 second_heads p q a r c = one_head no_head
 
 abbrev behind_second : Pos → Pos → Option plain.Statement → Pos → Option plain.Expression → Pos → List (Rest plain.Statement)
@@ -212,7 +213,7 @@ step_heads p q a r c s = one_head no_head
 abbrev behind_step : Pos → Pos → Option plain.Statement → Pos → Option plain.Expression → Pos → Option plain.Statement → List (Rest plain.Statement)
 behind_step p q a r c s b = popped (step_heads p q a r c s) b
 
-abbrev close_heads : (p q : Pos) (a : Option plain.Statement) (r : Pos) (c : Option plain.Expression) (s : Pos) (b : Option plain.Statement) → Heads (sym 1) 1 (behind_step p q a r c s b)
+abbrev close_heads : (p q : Pos) (a : Option plain.Statement) (r : Pos) (c : Option plain.Expression) (s : Pos) (b : Option plain.Statement) → Heads terminal.end_paren 1 (behind_step p q a r c s b)
 close_heads p q a r c s b = one_head no_head
 
 abbrev behind_close : Pos → Pos → Option plain.Statement → Pos → Option plain.Expression → Pos → Option plain.Statement → Pos → List (Rest plain.Statement)
@@ -223,10 +224,10 @@ module _ {toks : List Tok} (room : ℕ) {at : ℕ} {p : Pos} (w : On toks at (Ke
   at_for : Roomy toks (room + 1) statement at (at + 1) (behind_for p)
   at_for = over_word (begin refl (omega arith)) w refl
 
-  pub for_open_stops : (e : Stop) → Stopped toks (left (room + 1) 1) (sym 0) (at + 1) e → Stopped toks (room + 1) statement at e
+  pub for_open_stops : (e : Stop) → Stopped toks (left (room + 1) 1) terminal.paren (at + 1) e → Stopped toks (room + 1) statement at e
   for_open_stops e x = stops_all (paren_heads p) e at_for x refl
 
-  module _ {k : ℕ} {q : Pos} (paren : Reads toks (left (room + 1) 1) (sym 0) (at + 1) k q) where
+  module _ {k : ℕ} {q : Pos} (paren : Reads toks (left (room + 1) 1) terminal.paren (at + 1) k q) where
     at_paren : Roomy toks (room + 1) statement at k (behind_paren p q)
     at_paren = read_all (paren_heads p) at_for paren refl
 
@@ -237,22 +238,22 @@ module _ {toks : List Tok} (room : ℕ) {at : ℕ} {p : Pos} (w : On toks at (Ke
       | inr u ↦ by_end e u.0 u.1 u.2
     ]
       where
-        no_end : (j : ℕ) → Lacks toks j 6 → OneOf toks j (sym 6 ∷ []) → ⊥
-        no_end j none o = elim (first_of (sym 6) [] o) [ inl y ↦ none y.0 y.1 | inr y ↦ none_of y ]
+        no_end : (j : ℕ) → Lacks toks j 6 → OneOf toks j (terminal.semicolon ∷ []) → ⊥
+        no_end j none o = elim (first_of terminal.semicolon [] o) [ inl y ↦ none y.0 y.1 | inr y ↦ none_of y ]
 
         by_end : (e : Stop) (j : ℕ) → Unfit toks room for_start k j → IsEnded toks j e → Stopped toks (room + 1) statement at e
-        by_end (Deep m) j u y = subst (λ n. TooDeep toks (room + 1) statement at n) (sym' y.0) (dead (sym 6) (unfit (lacks_symbol 6 (taken at_paren refl) x.lacks) (inner_unfit room u) refl) y.1 refl (omega arith, tt))
-        by_end (Wrong m) j u y = subst (λ n. Refuses toks (room + 1) statement at n) (sym' y.0) (stuck (no_one (sym 6 ∷ []) (unfit (lacks_symbol 6 (taken at_paren refl) x.lacks) (inner_unfit room u) refl) (no_end j y.1)))
+        by_end (Deep m) j u y = subst (λ n. TooDeep toks (room + 1) statement at n) (sym' y.0) (dead terminal.semicolon (unfit (lacks_symbol 6 (taken at_paren refl) x.lacks) (inner_unfit room u) refl) y.1 refl (omega arith, tt))
+        by_end (Wrong m) j u y = subst (λ n. Refuses toks (room + 1) statement at n) (sym' y.0) (stuck (no_one (terminal.semicolon ∷ []) (unfit (lacks_symbol 6 (taken at_paren refl) x.lacks) (inner_unfit room u) refl) (no_end j y.1)))
         by_end Memory j u y = tt
 
     module _ {l : ℕ} {a : Option plain.Statement} (start : Reads toks room (maybe for_start) k l a) where
       at_start : Roomy toks (room + 1) statement at l (behind_start p q a)
       at_start = read_all (start_heads p q) at_paren (inner_reads room start) refl
 
-      pub for_first_stops : (e : Stop) → Stopped toks (left (room + 1) 1) (sym 6) l e → Stopped toks (room + 1) statement at e
+      pub for_first_stops : (e : Stop) → Stopped toks (left (room + 1) 1) terminal.semicolon l e → Stopped toks (room + 1) statement at e
       for_first_stops e x = stops_all (first_heads p q a) e at_start x refl
 
-      module _ {m : ℕ} {r : Pos} (semicolon : Reads toks (left (room + 1) 1) (sym 6) l m r) where
+      module _ {m : ℕ} {r : Pos} (semicolon : Reads toks (left (room + 1) 1) terminal.semicolon l m r) where
         at_first : Roomy toks (room + 1) statement at m (behind_first p q a r)
         at_first = read_all (first_heads p q a) at_start semicolon refl
 
@@ -263,10 +264,10 @@ module _ {toks : List Tok} (room : ℕ) {at : ℕ} {p : Pos} (w : On toks at (Ke
           at_test : Roomy toks (room + 1) statement at n (behind_test p q a r c)
           at_test = read_all (test_heads p q a r) at_first (inner_reads room test) refl
 
-          pub for_second_stops : (e : Stop) → Stopped toks (left (room + 1) 1) (sym 6) n e → Stopped toks (room + 1) statement at e
+          pub for_second_stops : (e : Stop) → Stopped toks (left (room + 1) 1) terminal.semicolon n e → Stopped toks (room + 1) statement at e
           for_second_stops e x = stops_all (second_heads p q a r c) e at_test x refl
 
-          module _ {o : ℕ} {s : Pos} (second : Reads toks (left (room + 1) 1) (sym 6) n o s) where
+          module _ {o : ℕ} {s : Pos} (second : Reads toks (left (room + 1) 1) terminal.semicolon n o s) where
             at_second : Roomy toks (room + 1) statement at o (behind_second p q a r c s)
             at_second = read_all (second_heads p q a r c) at_test second refl
 
@@ -277,10 +278,10 @@ module _ {toks : List Tok} (room : ℕ) {at : ℕ} {p : Pos} (w : On toks at (Ke
               at_step : Roomy toks (room + 1) statement at h (behind_step p q a r c s b)
               at_step = read_all (step_heads p q a r c s) at_second (inner_reads room step) refl
 
-              pub for_close_stops : (e : Stop) → Stopped toks (left (room + 1) 1) (sym 1) h e → Stopped toks (room + 1) statement at e
+              pub for_close_stops : (e : Stop) → Stopped toks (left (room + 1) 1) terminal.end_paren h e → Stopped toks (room + 1) statement at e
               for_close_stops e x = stops_all (close_heads p q a r c s b) e at_step x refl
 
-              module _ {i : ℕ} {t : Pos} (close : Reads toks (left (room + 1) 1) (sym 1) h i t) where
+              module _ {i : ℕ} {t : Pos} (close : Reads toks (left (room + 1) 1) terminal.end_paren h i t) where
                 at_close : Roomy toks (room + 1) statement at i (behind_close p q a r c s b t)
                 at_close = read_all (close_heads p q a r c s b) at_step close refl
 

@@ -5,7 +5,7 @@ use Rattle.xw_words.specs.declared.pos.Pos.{Pos}
 use Rattle.xc_tree.specs.declared.token.Tok.{Tok}
 use Rattle.xc_tree.specs.declared.token.Kind.TheVariants.{Key, Sym}
 use Rattle.xc_tree.specs.Plain as plain
-use Rattle.xc_tree.specs.Symbol.{Symbol, sym, key, assign, statement, Value, Values}
+use Rattle.xc_tree.specs.Symbol.{Symbol, sym, assign, statement, Value, Values}
 use Rattle.xc_tree.specs.Grammar.{Extent, Rule, rules}
 use Rattle.xc_tree.specs.Derives.{On, Room, extent, Derives, a_sym, a_key, named, counted, by_rule}
 use Rattle.xc_nonterminals.specs.declared.stop.Stop.{Stop}
@@ -20,6 +20,7 @@ use Rattle.xc_nonterminals.proofs.Rests.Opening.{is_token}
 use Rattle.xc_nonterminals.proofs.Derivations.Single.{one_kind}
 use Rattle.xc_nonterminals.proofs.Rests.Rests.{left}
 use Rattle.xc_nonterminals.proofs.Stating.Simples.{Each, each_of, others, break_stops, continue_stops}
+use Rattle.xc_tree.specs.Terminals as terminal
 
 -- a symbol that was read stands there
 pub symbol_there : {toks : List Tok} {room o i j : ℕ} {v : Pos} → Reads toks room (sym o) i j v → On toks i (Sym o) v
@@ -60,10 +61,10 @@ module _ {toks : List Tok} {i : ℕ} {p : Pos} where
   continue_word false h on = on
 
 -- what a call and a transfer go on with is missing behind a name
-pub no_others : {toks : List Tok} {k : ℕ} → ((p : Pos) → On toks k (Sym 0) p → ⊥) → (OneOf toks k (sym 24 ∷ sym 23 ∷ []) → ⊥) → (OneOf toks k (sym 25 ∷ key 28 ∷ []) → ⊥) → OneOf toks k others → ⊥
+pub no_others : {toks : List Tok} {k : ℕ} → ((p : Pos) → On toks k (Sym 0) p → ⊥) → (OneOf toks k (terminal.sends ∷ terminal.at_sign ∷ []) → ⊥) → (OneOf toks k (terminal.receives ∷ terminal.when_word ∷ []) → ⊥) → OneOf toks k others → ⊥
 no_others {toks} {k} call send receive o =
     each_of others (λ t. StandsAt toks k t → ⊥)
-    ((λ x. call x.0 x.1), ((λ x. send (record { token = sym 23; stands = x; among = refl })), ((λ x. send (record { token = sym 24; stands = x; among = refl })), ((λ x. receive (record { token = sym 25; stands = x; among = refl })), ((λ x. receive (record { token = key 28; stands = x; among = refl })), tt)))))
+    ((λ x. call x.0 x.1), ((λ x. send (record { token = terminal.at_sign; stands = x; among = refl })), ((λ x. send (record { token = terminal.sends; stands = x; among = refl })), ((λ x. receive (record { token = terminal.receives; stands = x; among = refl })), ((λ x. receive (record { token = terminal.when_word; stands = x; among = refl })), tt)))))
     o.token o.among o.stands
 
 -- a symbol is one of those that an assignment goes on with only where they have it
@@ -108,7 +109,7 @@ pub assign_holds_none : {toks : List Tok} {room : Room} {i j : ℕ} {a : plain.A
 assign_holds_none d = made {s = assign} (λ (a : plain.Action). 0 ≡ plain.held a) ((λ e x. refl) & (λ e x. refl) & (λ e x. refl) & (λ e x. refl) & none) refl d
 
 -- a jump whose semicolon is missing
-pub jump_stops : (toks : List Tok) (room at : ℕ) (is_break : Bool) {p : Pos} (e : Stop) → On toks at (Key (if is_break then 0 else 4)) p → Stopped toks (left (room + 1) 1) (sym 6) (at + 1) e → Stopped toks (room + 1) statement at e
+pub jump_stops : (toks : List Tok) (room at : ℕ) (is_break : Bool) {p : Pos} (e : Stop) → On toks at (Key (if is_break then 0 else 4)) p → Stopped toks (left (room + 1) 1) terminal.semicolon (at + 1) e → Stopped toks (room + 1) statement at e
 jump_stops toks room at true e on s = break_stops toks room at e on s
 jump_stops toks room at false e on s = continue_stops toks room at e on s
 

@@ -15,6 +15,7 @@ use Rattle.xc_nonterminals.proofs.Derivations.Inverse.{same_kind}
 use Rattle.xc_nonterminals.proofs.Valued.Operators.{operator_goes_on, bracket_goes_on, Onward, goes_onward}
 use Rattle.xc_nonterminals.proofs.Valued.Atoms.{each_sign}
 use Rattle.xc_nonterminals.proofs.Valued.Choosing.{has_within, expr_goes, question_goes}
+use Rattle.xc_tree.specs.Terminals as terminal
 
 -- the symbols of a list of tokens
 abbrev pub Among : ℕ → List Symbol → Type 0
@@ -102,9 +103,9 @@ module _ {toks : List Tok} {i : ℕ} where
   question_after on = question_goes toks on
 
   after_by : (t : Symbol) → StandsAt toks i t → has after_expression t ≡ true → IsSymbol toks i 9 ⊎ Onward toks 10 i
-  after_by (sym s) on e = elim (or_cases (nat_eq 9 s) (has (sym 4 ∷ binary_operators) (sym s)) e) [
+  after_by (sym s) on e = elim (or_cases (nat_eq 9 s) (has (terminal.bracket ∷ binary_operators) (sym s)) e) [
     | inl h ↦ inl (on.0, subst (λ x. On toks i (Sym x) on.0) (sym' (eqb-true 9 s h)) on.1)
-    | inr h ↦ inr (goes_onward toks 10 i (record { token = sym s; stands = on; among = has_within (sym 4 ∷ binary_operators) (follows (level 10)) (sym s) refl h }))
+    | inr h ↦ inr (goes_onward toks 10 i (record { token = sym s; stands = on; among = has_within (terminal.bracket ∷ binary_operators) (follows (level 10)) (sym s) refl h }))
   ]
   after_by (key w) on e = absurd (false_true e)
   after_by a_name on e = absurd (false_true e)
@@ -114,7 +115,7 @@ module _ {toks : List Tok} {i : ℕ} where
   pub after_is : OneOf toks i after_expression → IsSymbol toks i 9 ⊎ Onward toks 10 i
   after_is o = after_by o.token o.stands o.among
 
-  type_by : (t : Symbol) → StandsAt toks i t → has (key 11 ∷ key 26 ∷ []) t ≡ true → IsType toks i
+  type_by : (t : Symbol) → StandsAt toks i t → has (terminal.int_word ∷ terminal.unsigned_word ∷ []) t ≡ true → IsType toks i
   type_by (key w) on e = elim (or_cases (nat_eq 11 w) (nat_eq 26 w || false) e) [
     | inl h ↦ inl (on.0, subst (λ x. On toks i (Key x) on.0) (sym' (eqb-true 11 w h)) on.1)
     | inr h ↦ elim (or_cases (nat_eq 26 w) false h) [
@@ -127,7 +128,7 @@ module _ {toks : List Tok} {i : ℕ} where
   type_by a_number on e = absurd (false_true e)
   type_by t on e = absurd on
 
-  pub type_is : OneOf toks i (key 11 ∷ key 26 ∷ []) → IsType toks i
+  pub type_is : OneOf toks i (terminal.int_word ∷ terminal.unsigned_word ∷ []) → IsType toks i
   type_is o = type_by o.token o.stands o.among
 
 -- behind the last token stands none

@@ -4,7 +4,7 @@ use Rattle.xw_words.specs.declared.pos.Pos.{Pos}
 use Rattle.xc_tree.specs.declared.token.Tok.{Tok}
 use Rattle.xc_tree.specs.declared.token.Kind.TheVariants.{Key, Sym}
 use Rattle.xc_tree.specs.Plain as plain
-use Rattle.xc_tree.specs.Symbol.{sym, block, block_item, decl, statement}
+use Rattle.xc_tree.specs.Symbol.{block, block_item, decl, statement}
 use Rattle.xc_tree.specs.Grammar.{statement_of}
 use Rattle.xc_tree.specs.Derives.{On, extent}
 use Rattle.xc_nonterminals.specs.declared.stop.Stop.{Stop}
@@ -17,6 +17,7 @@ use Rattle.xc_nonterminals.proofs.Reading.Loops.{Run, having, one_more, one_stop
 use Rattle.xc_nonterminals.proofs.Reading.Lasts.{read_last, stops_last}
 use Rattle.xc_nonterminals.proofs.Stating.Simples.{each_of}
 use Rattle.xc_nonterminals.proofs.Reading.Insides.{inner_reads, inner_stopped}
+use Rattle.xc_tree.specs.Terminals as terminal
 
 module _ (toks : List Tok) (room at : ℕ) where
   -- a declaration, and a statement, as an item of a block
@@ -34,7 +35,7 @@ module _ (toks : List Tok) (room at : ℕ) where
 
 -- a block with these items so far
 abbrev items_of_block : Run (List plain.Statement)
-items_of_block = record { need = 0; above = 0; symbol = block_item; parts = record { above = 0; symbol = sym 3 } ∷ []; fits = λ x. true; make = λ e x. x.0 }
+items_of_block = record { need = 0; above = 0; symbol = block_item; parts = record { above = 0; symbol = terminal.end_brace } ∷ []; fits = λ x. true; make = λ e x. x.0 }
 
 pub record Holds (toks : List Tok) (room at k : ℕ) (items : List plain.Statement) : Type 0 where
   pub roomy : Roomy toks room block at k (having items_of_block items ∷ [])
@@ -48,15 +49,15 @@ module _ {toks : List Tok} {room at : ℕ} where
     item_added r = record { roomy = one_more items_of_block items h.roomy r refl }
 
     pub item_stops : (e : Stop) → ((p : Pos) → On toks k (Sym 3) p → ⊥) → Stopped toks room block_item k e → Stopped toks room block at e
-    item_stops e none s = one_stops items_of_block items e h.roomy s (λ o. each_of (sym 3 ∷ []) (λ t. StandsAt toks k t → ⊥) ((λ x. none x.0 x.1), tt) o.token o.among o.stands) refl refl
+    item_stops e none s = one_stops items_of_block items e h.roomy s (λ o. each_of (terminal.end_brace ∷ []) (λ t. StandsAt toks k t → ⊥) ((λ x. none x.0 x.1), tt) o.token o.among o.stands) refl refl
 
     pub closed_block : {p : Pos} → On toks k (Sym 3) p → Reads toks room block at (k + 1) items
     closed_block {p} on =
-        let o : OneOf toks k (sym 3 ∷ []) = record { token = sym 3; stands = (p, on); among = refl } in
+        let o : OneOf toks k (terminal.end_brace ∷ []) = record { token = terminal.end_brace; stands = (p, on); among = refl } in
         finish (over_symbol (no_more items_of_block items h.roomy (one_disjoint (first block_item) refl o) refl) on refl) refl
 
 -- no brace stands there
-pub brace_missing : (toks : List Tok) (room at : ℕ) (e : Stop) → Stopped toks room (sym 2) at e → Stopped toks room block at e
+pub brace_missing : (toks : List Tok) (room at : ℕ) (e : Stop) → Stopped toks room terminal.brace at e → Stopped toks room block at e
 brace_missing toks room at e s = stops e (begin refl tt) s refl
 
 -- transactions

@@ -6,7 +6,7 @@ use Rattle.xw_words.specs.declared.pos.Pos.{Pos}
 use Rattle.xc_tree.specs.declared.token.Tok.{Tok}
 use Rattle.xc_tree.specs.declared.token.Kind.TheVariants.{Key}
 use Rattle.xc_tree.specs.Plain as plain
-use Rattle.xc_tree.specs.Symbol.{Symbol, sym, key, many, statement, case_item}
+use Rattle.xc_tree.specs.Symbol.{Symbol, many, statement, case_item}
 use Rattle.xc_tree.specs.Grammar.{rules}
 use Rattle.xc_tree.specs.Derives.{On, Room, Derives, Row, next, Prefix, nothing, whole, Begins, in_this, after}
 use Rattle.xc_nonterminals.proofs.Rests.Opening.{is_token}
@@ -15,6 +15,7 @@ use Rattle.xc_nonterminals.proofs.Rests.Behinds.{token_derives, token_derived}
 use Rattle.xc_nonterminals.proofs.Meeting.Openers.{begins_opened, no_item}
 use Rattle.xc_nonterminals.proofs.Derivations.Lists.{token_begun, unrow, unbegin, unbegin_none, many_split, many_none, many_begin}
 use Rattle.xc_nonterminals.proofs.Reading.RowReads.{Packs}
+use Rattle.xc_tree.specs.Terminals as terminal
 
 abbrev all_tokens : List Symbol → Bool
 all_tokens [] = true
@@ -35,13 +36,13 @@ begins_anew {toks} {b} {i} (t ∷ ss) e x =
 
 -- `break ;`
 abbrev pub ending : List Symbol
-ending = key 0 ∷ sym 6 ∷ []
+ending = terminal.break_word ∷ terminal.semicolon ∷ []
 
 module _ {toks : List Tok} {i : ℕ} {p : Pos} (on : On toks i (Key 0) p) where
   statement_begins : {room other : Room} {n : ℕ} → Prefix toks room statement i n → (n ≤ i) ⊎ Begins toks other ending i n
   statement_begins {room} {n} q = elim (by_starts toks room statement i n refl q) [
     | inl h ↦ inl h
-    | inr x ↦ elim (begins_opened toks room i (key 0) (p, on) (rules statement) n x) [
+    | inr x ↦ elim (begins_opened toks room i terminal.break_word (p, on) (rules statement) n x) [
       | inl h ↦ inl h
       | inr y ↦ elim y [ inl z ↦ inr (begins_anew ending refl z.1) | inr z ↦ absurd z ]
     ]
@@ -50,7 +51,7 @@ module _ {toks : List Tok} {i : ℕ} {p : Pos} (on : On toks i (Key 0) p) where
   item_begins : {room other : Room} {n : ℕ} → Prefix toks room case_item i n → (n ≤ i) ⊎ Begins toks other ending i n
   item_begins {room} {n} q = elim (by_starts toks room case_item i n refl q) [
     | inl h ↦ inl h
-    | inr x ↦ elim (begins_opened toks room i (key 0) (p, on) (rules case_item) n x) [
+    | inr x ↦ elim (begins_opened toks room i terminal.break_word (p, on) (rules case_item) n x) [
       | inl h ↦ inl h
       | inr y ↦ elim y [
         | inl z ↦ elim (unbegin z.1) [ inl w ↦ statement_begins w | inr w ↦ absurd (unbegin_none w.3) ]

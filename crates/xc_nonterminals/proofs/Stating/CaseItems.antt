@@ -5,7 +5,7 @@ use Rattle.xc_tree.specs.declared.token.Tok.{Tok}
 use Rattle.xc_tree.specs.declared.token.Kind.TheVariants.{Key}
 use Rattle.xc_tree.specs.Plain as plain
 use Rattle.xc_tree.specs.Plain.{is_break}
-use Rattle.xc_tree.specs.Symbol.{key, statement, assign, block_item, case_item}
+use Rattle.xc_tree.specs.Symbol.{statement, assign, block_item, case_item}
 use Rattle.xc_tree.specs.Derives.{On, Room, unlimited, at_most, Derives, Prefix, nothing}
 use Rattle.xc_nonterminals.specs.declared.stop.Stop.{Stop}
 use Rattle.xc_nonterminals.specs.declared.stop.Stop.TheVariants.{Wrong, Deep, Memory}
@@ -14,6 +14,7 @@ use Rattle.xc_nonterminals.specs.Stops.{Stopped}
 use Rattle.xc_nonterminals.proofs.Rests.Behinds.{token_derived}
 use Rattle.xc_nonterminals.proofs.Rests.Alternatives.{by_rules, from_rules, by_starts, from_starts}
 use Rattle.xc_nonterminals.proofs.Derivations.Lists.{unrow}
+use Rattle.xc_tree.specs.Terminals as terminal
 
 module _ {toks : List Tok} {k : ℕ} where
   -- an assignment is no `break ;`
@@ -56,7 +57,7 @@ module _ {toks : List Tok} {k : ℕ} where
                         | inr z ↦ elim z [
                           | inl x ↦ ap is_break x.4
                           | inr z ↦ elim z [
-                            | inl x ↦ absurd (none _ (token_derived {t = key 0} refl (unrow x.2).1).1)
+                            | inl x ↦ absurd (none _ (token_derived {t = terminal.break_word} refl (unrow x.2).1).1)
                             | inr z ↦ elim z [
                               | inl x ↦ ap is_break x.4
                               | inr z ↦ elim z [

@@ -4,7 +4,7 @@ use Rattle.xw_words.specs.declared.pos.Pos.{Pos}
 use Rattle.xc_tree.specs.declared.token.Tok.{Tok}
 use Rattle.xc_tree.specs.declared.token.Kind.TheVariants.{Key, Sym}
 use Rattle.xc_tree.specs.Plain as plain
-use Rattle.xc_tree.specs.Symbol.{sym, case, statement}
+use Rattle.xc_tree.specs.Symbol.{case, statement}
 use Rattle.xc_tree.specs.Grammar.{statement_of}
 use Rattle.xc_tree.specs.Derives.{On, extent}
 use Rattle.xc_nonterminals.specs.declared.stop.Stop.{Stop}
@@ -16,10 +16,11 @@ use Rattle.xc_nonterminals.proofs.Derivations.Single.{one_symbol}
 use Rattle.xc_nonterminals.proofs.Reading.Paths.{Roomy, begin, over_word, over_symbol, read, stops, finish}
 use Rattle.xc_nonterminals.proofs.Reading.Loops.{Run, having, one_more, one_stops, no_more}
 use Rattle.xc_nonterminals.proofs.Reading.Insides.{inner_reads, inner_stopped}
+use Rattle.xc_tree.specs.Terminals as terminal
 
 -- the cases behind the first one
 abbrev cases_behind : plain.Case → Run plain.Statement
-cases_behind c = record { need = 1; above = 1; symbol = case; parts = record { above = 1; symbol = sym 3 } ∷ []; fits = λ x. true; make = λ e x. statement_of e (plain.select (plain.more_cases c (plain.cases x.0))) }
+cases_behind c = record { need = 1; above = 1; symbol = case; parts = record { above = 1; symbol = terminal.end_brace } ∷ []; fits = λ x. true; make = λ e x. statement_of e (plain.select (plain.more_cases c (plain.cases x.0))) }
 
 -- these cases were read
 pub record Cases (toks : List Tok) (room at k : ℕ) (cs : List plain.Case) : Type 0 where
@@ -29,10 +30,10 @@ pub record Cases (toks : List Tok) (room at k : ℕ) (cs : List plain.Case) : Ty
   pub are : cs ≡ head ∷ others
 
 module _ {toks : List Tok} {at : ℕ} (room : ℕ) {p : Pos} (on : On toks at (Key 20) p) where
-  pub select_unopened : (e : Stop) → Stopped toks room (sym 2) (at + 1) e → Stopped toks (room + 1) statement at e
-  select_unopened e x = stops e (over_word (begin refl (omega arith)) on refl) (inner_stopped toks room (sym 2) (at + 1) e x) refl
+  pub select_unopened : (e : Stop) → Stopped toks room terminal.brace (at + 1) e → Stopped toks (room + 1) statement at e
+  select_unopened e x = stops e (over_word (begin refl (omega arith)) on refl) (inner_stopped toks room terminal.brace (at + 1) e x) refl
 
-  module _ {k : ℕ} {q : Pos} (brace : Reads toks room (sym 2) (at + 1) k q) where
+  module _ {k : ℕ} {q : Pos} (brace : Reads toks room terminal.brace (at + 1) k q) where
     pub case_missing : (e : Stop) → Stopped toks room case k e → Stopped toks (room + 1) statement at e
     case_missing e x = stops e (read (over_word (begin refl (omega arith)) on refl) (inner_reads room brace) refl) (inner_stopped toks room case k e x) refl
 
@@ -56,10 +57,10 @@ module _ {toks : List Tok} {room at k : ℕ} {cs : List plain.Case} (h : Cases t
   pub case_stops : (e : Stop) → ((q : Pos) → On toks k (Sym 3) q → ⊥) → Stopped toks room case k e → Stopped toks (room + 1) statement at e
   case_stops e none s = one_stops (cases_behind h.head) h.others e h.roomy (inner_stopped toks room case k e s) (λ o. let y = one_token o in none y.0 y.1) refl refl
     where
-      one_token : OneOf toks k (sym 3 ∷ []) → (q : Pos) × On toks k (Sym 3) q
-      one_token o = one_token_of (sym 3) o
+      one_token : OneOf toks k (terminal.end_brace ∷ []) → (q : Pos) × On toks k (Sym 3) q
+      one_token o = one_token_of terminal.end_brace o
 
   pub select_closed : {q : Pos} → On toks k (Sym 3) q → Reads toks (room + 1) statement at (k + 1) (statement_of (extent toks at (k + 1)) (plain.select (plain.cases cs)))
   select_closed on =
-      let r = finish (over_symbol (no_more (cases_behind h.head) h.others h.roomy (one_disjoint (first case) refl (one_symbol (sym 3 ∷ []) on refl)) refl) on refl) refl in
+      let r = finish (over_symbol (no_more (cases_behind h.head) h.others h.roomy (one_disjoint (first case) refl (one_symbol (terminal.end_brace ∷ []) on refl)) refl) on refl) refl in
       subst (λ (l : List plain.Case). Reads toks (room + 1) statement at (k + 1) (statement_of (extent toks at (k + 1)) (plain.select (plain.cases l)))) (sym' h.are) r

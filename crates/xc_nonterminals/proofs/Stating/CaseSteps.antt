@@ -4,7 +4,7 @@ use Rattle.xw_words.specs.declared.pos.Pos.{Pos}
 use Rattle.xc_tree.specs.declared.token.Tok.{Tok}
 use Rattle.xc_tree.specs.declared.token.Kind.TheVariants.{Name, Key}
 use Rattle.xc_tree.specs.Plain as plain
-use Rattle.xc_tree.specs.Symbol.{sym, key, block_item, case_item, case, guard, input, Values}
+use Rattle.xc_tree.specs.Symbol.{key, block_item, case_item, case, guard, input, Values}
 use Rattle.xc_tree.specs.Derives.{On, in_this}
 use Rattle.xc_nonterminals.specs.declared.stop.Stop.{Stop}
 use Rattle.xc_nonterminals.specs.declared.stop.Stop.TheVariants.{Wrong, Deep, Memory}
@@ -25,6 +25,7 @@ use Rattle.xc_nonterminals.proofs.Reading.RowSteps.{read_row, stops_row}
 use Rattle.xc_nonterminals.proofs.Stating.CaseEnds.{ending, items_end}
 use Rattle.xc_nonterminals.proofs.Stating.CaseItems.{item_reads, item_stops}
 use Rattle.xc_nonterminals.proofs.Stating.Guards.{guarded, begins_guard, begins_input}
+use Rattle.xc_tree.specs.Terminals as terminal
 
 no_word : {toks : List Tok} {i w : ℕ} → ((p : Pos) → On toks i (Key w) p → ⊥) → OneOf toks i (key w ∷ []) → ⊥
 no_word {w} none o = let x = one_token_of (key w) o in none x.0 x.1
@@ -58,15 +59,15 @@ module _ {toks : List Tok} {room i : ℕ} where
         let b = row_stops toks room k case_item body_row e (item_stops none room e r) refl in
         l.stops e (packed_stops (one_of_many case_item ending (no_word none) refl) room e b (beyond_start toks room k _ e b))
 
-    pub leads_end : {p q : Pos} {j : ℕ} → On toks k (Key 0) p → Reads toks room (sym 6) (k + 1) j q → ReadsRow toks room body_row i j (xs, (p, (q, tt)))
+    pub leads_end : {p q : Pos} {j : ℕ} → On toks k (Key 0) p → Reads toks room terminal.semicolon (k + 1) j q → ReadsRow toks room body_row i j (xs, (p, (q, tt)))
     leads_end {p} {q} {j} on r =
         let h = forth r.derives in
         let a = packed_read (items_end on) (row_read (key_reads on room) (row_read r no_more_row refl) refl) (omega arith) in
         subst (λ (zs : List plain.Statement). ReadsRow toks room body_row i j (zs, (p, (q, tt)))) (append-nil xs) (l.reads j [] (p, (q, tt)) a)
 
-    pub leads_open : {p : Pos} (e : Stop) → On toks k (Key 0) p → Stopped toks room (sym 6) (k + 1) e → StoppedRow toks room body_row i e
+    pub leads_open : {p : Pos} (e : Stop) → On toks k (Key 0) p → Stopped toks room terminal.semicolon (k + 1) e → StoppedRow toks room body_row i e
     leads_open e on r =
-        let b = row_goes toks room k (key 0) (sym 6 ∷ []) e (key_reads on room) (row_stops toks room (k + 1) (sym 6) [] e r refl) refl in
+        let b = row_goes toks room k terminal.break_word (terminal.semicolon ∷ []) e (key_reads on room) (row_stops toks room (k + 1) terminal.semicolon [] e r refl) refl in
         l.stops e (packed_stops (items_end on) room e b (beyond_start toks room k _ e b))
 
 -- how many tokens they have
@@ -75,8 +76,8 @@ case_body_tokens {toks} {room} {i} k {n} {ss} {p} {q} t r =
     let a = unrow r.derives in
     let b = unrow a.2 in
     let c = unrow b.2 in
-    let e = (token_derived {t = key 0} refl b.1).0 in
-    let f = (token_derived {t = sym 6} refl c.1).0 in
+    let e = (token_derived {t = terminal.break_word} refl b.1).0 in
+    let f = (token_derived {t = terminal.semicolon} refl c.1).0 in
     let g = unend c.2 in
     let h : a.0 ≡ k = omega (arith, t) in
     subst (λ (l : ℕ). l - i ≡ plain.all_tokens (plain.statements ss)) h (held_case (record { line = 0; col = 0 }) None None a.1)
@@ -84,12 +85,12 @@ case_body_tokens {toks} {room} {i} k {n} {ss} {p} {q} t r =
 -- an input and its colon
 module _ (toks : List Tok) (room i : ℕ) where
   pub input_stops : (e : Stop) → Stopped toks room input i e → StoppedRow toks room awaited i e
-  input_stops e r = row_stops toks room i input (sym 8 ∷ []) e r refl
+  input_stops e r = row_stops toks room i input (terminal.colon ∷ []) e r refl
 
-  pub colon_stops : {j : ℕ} {v : plain.Input} (e : Stop) → Reads toks room input i j v → Stopped toks room (sym 8) j e → StoppedRow toks room awaited i e
-  colon_stops {j} e r s = row_goes toks room i input (sym 8 ∷ []) e r (row_stops toks room j (sym 8) [] e s refl) refl
+  pub colon_stops : {j : ℕ} {v : plain.Input} (e : Stop) → Reads toks room input i j v → Stopped toks room terminal.colon j e → StoppedRow toks room awaited i e
+  colon_stops {j} e r s = row_goes toks room i input (terminal.colon ∷ []) e r (row_stops toks room j terminal.colon [] e s refl) refl
 
-  pub input_reads : {j k : ℕ} {v : plain.Input} {p : Pos} → Reads toks room input i j v → Reads toks room (sym 8) j k p → ReadsRow toks room awaited i k (v, (p, tt))
+  pub input_reads : {j k : ℕ} {v : plain.Input} {p : Pos} → Reads toks room input i j v → Reads toks room terminal.colon j k p → ReadsRow toks room awaited i k (v, (p, tt))
   input_reads r s = row_read r (row_read s no_more_row refl) refl
 
   -- no guard stands before them
@@ -128,10 +129,10 @@ module _ (toks : List Tok) (room i : ℕ) where
 -- a case
 module _ (toks : List Tok) (room i : ℕ) where
   module _ (other : (p : Pos) → On toks i (Key 5) p → ⊥) where
-    pub case_word_stops : (e : Stop) → Stopped toks room (key 1) i e → Stopped toks room case i e
+    pub case_word_stops : (e : Stop) → Stopped toks room terminal.case_word i e → Stopped toks room case i e
     case_word_stops e r = stops e (lacks_word 5 (begin refl tt) other) r refl
 
-    module _ {j : ℕ} {p : Pos} (word : Reads toks room (key 1) i j p) where
+    module _ {j : ℕ} {p : Pos} (word : Reads toks room terminal.case_word i j p) where
       pub case_event_stops : (e : Stop) → StoppedRow toks room event_row j e → Stopped toks room case i e
       case_event_stops e r = stops_row 0 event_row _ e (read (lacks_word 5 (begin refl tt) other) word refl) r refl
 
@@ -144,14 +145,14 @@ module _ (toks : List Tok) (room i : ℕ) where
 
   -- one that waits for nothing
   module _ {x : Pos} (on : On toks i (Key 5) x) where
-    pub default_word_stops : (e : Stop) → Stopped toks room (key 5) i e → Stopped toks room case i e
+    pub default_word_stops : (e : Stop) → Stopped toks room terminal.default_word i e → Stopped toks room case i e
     default_word_stops e r = stops e (at_word (begin refl tt) on) r refl
 
-    module _ {j : ℕ} {p : Pos} (word : Reads toks room (key 5) i j p) where
-      pub default_colon_stops : (e : Stop) → Stopped toks room (sym 8) j e → Stopped toks room case i e
+    module _ {j : ℕ} {p : Pos} (word : Reads toks room terminal.default_word i j p) where
+      pub default_colon_stops : (e : Stop) → Stopped toks room terminal.colon j e → Stopped toks room case i e
       default_colon_stops e r = stops e (read (at_word (begin refl tt) on) word refl) r refl
 
-      module _ {k : ℕ} {q : Pos} (colon : Reads toks room (sym 8) j k q) where
+      module _ {k : ℕ} {q : Pos} (colon : Reads toks room terminal.colon j k q) where
         pub default_stops : (e : Stop) → StoppedRow toks room body_row k e → Stopped toks room case i e
         default_stops e r = stops_row 0 body_row [] e (read (read (at_word (begin refl tt) on) word refl) colon refl) r refl
 

@@ -4,7 +4,7 @@ use Rattle.xw_words.specs.declared.pos.Pos.{Pos}
 use Rattle.xc_tree.specs.declared.token.Tok.{Tok}
 use Rattle.xc_tree.specs.declared.token.Kind.TheVariants.{Key, Sym}
 use Rattle.xc_tree.specs.Plain as plain
-use Rattle.xc_tree.specs.Symbol.{sym, key, expr, statement}
+use Rattle.xc_tree.specs.Symbol.{expr, statement}
 use Rattle.xc_tree.specs.Grammar.{statement_of}
 use Rattle.xc_tree.specs.Derives.{On, extent}
 use Rattle.xc_nonterminals.specs.declared.stop.Stop.{Stop}
@@ -16,16 +16,17 @@ use Rattle.xc_nonterminals.proofs.Reading.Paths.{Roomy, begin, over_symbol, over
 use Rattle.xc_nonterminals.proofs.Reading.Lasts.{read_last, stops_last, if_ends, if_goes_on, if_stops}
 use Rattle.xc_nonterminals.proofs.Stating.Elses.{read_shut}
 use Rattle.xc_nonterminals.proofs.Reading.Insides.{inner_reads, inner_stopped}
+use Rattle.xc_tree.specs.Terminals as terminal
 
 -- what is open behind the word, the bracket, the condition and its bracket
 abbrev behind_word : Pos → List (Rest plain.Statement)
-behind_word p = over (fronts statement) (key 9) p (beginnings statement)
+behind_word p = over (fronts statement) terminal.if_word p (beginnings statement)
 
-abbrev paren_heads : (p : Pos) → Heads (sym 0) 1 (behind_word p)
+abbrev paren_heads : (p : Pos) → Heads terminal.paren 1 (behind_word p)
 paren_heads p = one_head (one_head no_head)
 
 abbrev behind_paren : Pos → Pos → List (Rest plain.Statement)
-behind_paren p q = over (fronts statement) (sym 0) q (behind_word p)
+behind_paren p q = over (fronts statement) terminal.paren q (behind_word p)
 
 abbrev test_heads : (p q : Pos) → Heads expr 1 (behind_paren p q)
 test_heads p q = one_head (one_head no_head)
@@ -33,17 +34,17 @@ test_heads p q = one_head (one_head no_head)
 abbrev behind_test : Pos → Pos → plain.Expression → List (Rest plain.Statement)
 behind_test p q c = popped (test_heads p q) c
 
-abbrev close_heads : (p q : Pos) (c : plain.Expression) → Heads (sym 1) 1 (behind_test p q c)
+abbrev close_heads : (p q : Pos) (c : plain.Expression) → Heads terminal.end_paren 1 (behind_test p q c)
 close_heads p q c = one_head (one_head no_head)
 
 abbrev behind_close : Pos → Pos → plain.Expression → Pos → List (Rest plain.Statement)
-behind_close p q c r = over (fronts statement) (sym 1) r (behind_test p q c)
+behind_close p q c r = over (fronts statement) terminal.end_paren r (behind_test p q c)
 
 module _ {toks : List Tok} (room : ℕ) {at : ℕ} {p : Pos} (w : On toks at (Key 9) p) where
   at_word : Roomy toks (room + 1) statement at (at + 1) (behind_word p)
   at_word = over_word (begin refl (omega arith)) w refl
 
-  pub open_stops : (e : Stop) → Stopped toks (left (room + 1) 1) (sym 0) (at + 1) e → Stopped toks (room + 1) statement at e
+  pub open_stops : (e : Stop) → Stopped toks (left (room + 1) 1) terminal.paren (at + 1) e → Stopped toks (room + 1) statement at e
   open_stops e s = stops_all (paren_heads p) e at_word s refl
 
   module _ {q : Pos} (o : On toks (at + 1) (Sym 0) q) where
@@ -57,7 +58,7 @@ module _ {toks : List Tok} (room : ℕ) {at : ℕ} {p : Pos} (w : On toks at (Ke
       at_test : Roomy toks (room + 1) statement at m (behind_test p q c)
       at_test = read_all (test_heads p q) at_paren (inner_reads room t) refl
 
-      pub close_stops : (e : Stop) → Stopped toks (left (room + 1) 1) (sym 1) m e → Stopped toks (room + 1) statement at e
+      pub close_stops : (e : Stop) → Stopped toks (left (room + 1) 1) terminal.end_paren m e → Stopped toks (room + 1) statement at e
       close_stops e s = stops_all (close_heads p q c) e at_test s refl
 
       module _ {r : Pos} (l : On toks m (Sym 1) r) where

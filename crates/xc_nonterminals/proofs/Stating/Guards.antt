@@ -6,7 +6,7 @@ use Rattle.xc_tree.specs.declared.token.Tok.{Tok}
 use Rattle.xc_tree.specs.declared.token.Kind.TheVariants.{Name, Sym}
 use Rattle.xc_tree.specs.Plain as plain
 use Rattle.xc_tree.specs.Depth.{of_expression}
-use Rattle.xc_tree.specs.Symbol.{Symbol, sym, a_name, maybe, guard, input, expr, rhs, call, level, atom}
+use Rattle.xc_tree.specs.Symbol.{Symbol, a_name, maybe, guard, input, expr, rhs, call, level, atom}
 use Rattle.xc_tree.specs.Derives.{On, Room, unlimited, at_most, HasRoom, Derives, a_sym, named, Row, next, Prefix, whole, Begins, in_this, after}
 use Rattle.xc_nonterminals.specs.declared.stop.Stop.TheVariants.{Wrong}
 use Rattle.xc_nonterminals.specs.Follows.{StandsAt, OneOf, after_expression}
@@ -21,6 +21,7 @@ use Rattle.xc_nonterminals.proofs.Derivations.Lists.{unrow, unbegin, unbegin_non
 use Rattle.xc_nonterminals.proofs.Reading.Paths.{Roomy, begin, over_name, lacks, lacks_symbol, read, none_left}
 use Rattle.xc_nonterminals.proofs.Valued.RightSides.{name_alone, paren_ends, deep_name_goes_on, unfit_name}
 use Rattle.xc_nonterminals.proofs.Reading.RowReads.{NoRow, refused_row, row_stops, maybe_split, maybe_none, maybe_begin, begin_maybe}
+use Rattle.xc_tree.specs.Terminals as terminal
 
 -- an input with its colon, behind a guard
 abbrev pub guarded : List Symbol
@@ -43,7 +44,7 @@ module _ {toks : List Tok} {room : Room} {i : ℕ} {x : List ℕ} {p : Pos} (on 
   begins_expr = from_starts toks room expr i (i + 1) (inl (no_nodes room, subst (λ (r : Room). Begins toks r (level 10 ∷ []) i (i + 1)) (sym' (inside_same room 0)) (in_this (begins_level 10))))
 
   pub begins_guard : Prefix toks room guard i (i + 1)
-  begins_guard = from_starts toks room guard i (i + 1) (inl (no_nodes room, subst (λ (r : Room). Begins toks r (expr ∷ sym 26 ∷ []) i (i + 1)) (sym' (inside_same room 0)) (in_this begins_expr)))
+  begins_guard = from_starts toks room guard i (i + 1) (inl (no_nodes room, subst (λ (r : Room). Begins toks r (expr ∷ terminal.arrow ∷ []) i (i + 1)) (sym' (inside_same room 0)) (in_this begins_expr)))
 
 -- a guard is an expression and an arrow
 module _ {toks : List Tok} {room : Room} {i : ℕ} where
@@ -57,13 +58,13 @@ module _ {toks : List Tok} {room : Room} {i : ℕ} where
   guard_begin {n} q = elim (by_starts toks room guard i n refl q) [
     | inl h ↦ inl h
     | inr z ↦ elim z [
-      | inl y ↦ elim (unbegin (subst (λ (r : Room). Begins toks r (expr ∷ sym 26 ∷ []) i n) (inside_same room 0) y.1)) [ inl p ↦ inr (inl p) | inr w ↦ inr (inr (w.0, w.1, w.2)) ]
+      | inl y ↦ elim (unbegin (subst (λ (r : Room). Begins toks r (expr ∷ terminal.arrow ∷ []) i n) (inside_same room 0) y.1)) [ inl p ↦ inr (inl p) | inr w ↦ inr (inr (w.0, w.1, w.2)) ]
       | inr w ↦ absurd w
     ]
   ]
 
-  begin_guard : {n : ℕ} → Begins toks room (expr ∷ sym 26 ∷ []) i n → Prefix toks room guard i n
-  begin_guard {n} b = from_starts toks room guard i n (inl (no_nodes room, subst (λ (r : Room). Begins toks r (expr ∷ sym 26 ∷ []) i n) (sym' (inside_same room 0)) b))
+  begin_guard : {n : ℕ} → Begins toks room (expr ∷ terminal.arrow ∷ []) i n → Prefix toks room guard i n
+  begin_guard {n} b = from_starts toks room guard i n (inl (no_nodes room, subst (λ (r : Room). Begins toks r (expr ∷ terminal.arrow ∷ []) i n) (sym' (inside_same room 0)) b))
 
 -- an expression begins a right side, and is all that begins one where no bracket stands behind its name
 module _ {toks : List Tok} {room : Room} {i : ℕ} where
@@ -95,7 +96,7 @@ module _ {toks : List Tok} {i : ℕ} where
   pub no_name : (StandsAt toks i a_name → ⊥) → NoRow toks awaited i i
   no_name none =
       let r : Refuses toks 0 input i i = none_left (lacks (a_name ∷ []) (begin refl tt) (λ o. none (one_token_of a_name o))) in
-      refused_row (row_stops toks 0 i input (sym 8 ∷ []) (Wrong i) r refl)
+      refused_row (row_stops toks 0 i input (terminal.colon ∷ []) (Wrong i) r refl)
 
   -- a guard goes on behind a name with an arrow, or with what an expression goes on with
   behind_arrow : {v : plain.Expression} → Derives toks unlimited expr i (i + 1) v → {q : Pos} → On toks (i + 1) (Sym 26) q → Prefix toks unlimited guard i (i + 1 + 1)
@@ -112,7 +113,7 @@ module _ {toks : List Tok} {i : ℕ} where
     pub no_transfer : (OneOf toks (i + 1) transfers → ⊥) → NoRow toks awaited i (i + 1)
     no_transfer none =
         let r : Refuses toks 0 input i (i + 1) = none_left (lacks transfers (over_name (begin refl tt) on refl) none) in
-        refused_row (row_stops toks 0 i input (sym 8 ∷ []) (Wrong (i + 1)) r refl)
+        refused_row (row_stops toks 0 i input (terminal.colon ∷ []) (Wrong (i + 1)) r refl)
 
     -- a name alone is no guard
     module _ (v : plain.Expression) (alone : Reads toks 1 expr i (i + 1) v) (arrow : (q : Pos) → On toks (i + 1) (Sym 26) q → ⊥) where
@@ -174,13 +175,13 @@ module _ {toks : List Tok} {i : ℕ} where
 
 -- a name with a transfer behind it begins no guard
 pub no_guarded : {toks : List Tok} {i : ℕ} {x : List ℕ} {p : Pos} → On toks i (Name x) p → OneOf toks (i + 1) transfers → NoRow toks guarded i (i + 1)
-no_guarded {toks} on o = no_guard on _ (name_alone toks on (one_disjoint after_expression refl o)) (λ q at. let e = one_is (sym 26) (q, at) o in absurd (cc))
+no_guarded {toks} on o = no_guard on _ (name_alone toks on (one_disjoint after_expression refl o)) (λ q at. let e = one_is terminal.arrow (q, at) o in absurd (cc))
 
 -- why a name with no transfer behind it begins nothing that a case waits for, with no room for a node
 module _ {toks : List Tok} {i : ℕ} {x : List ℕ} {p : Pos} (on : On toks i (Name x) p) (none : OneOf toks (i + 1) transfers → ⊥) where
   pub deep_arrow : {q : Pos} → On toks (i + 1) (Sym 26) q → TooDeepRow toks 0 event_row i (i + 1)
   deep_arrow {q} at =
-      let free : OneOf toks (i + 1) after_expression → ⊥ = λ o. let e = one_is (sym 26) (q, at) o in absurd (cc) in
+      let free : OneOf toks (i + 1) after_expression → ⊥ = λ o. let e = one_is terminal.arrow (q, at) o in absurd (cc) in
       let u = unfit_name toks on (λ r b. let e = same_kind b at in absurd (cc)) free in
       let d = lift (name_alone toks on free).derives in
       deep_name on none (short_name (λ n c. u.most n (lift_prefix c))) (behind_arrow d at)

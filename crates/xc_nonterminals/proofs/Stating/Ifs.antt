@@ -17,6 +17,7 @@ use Rattle.xc_nonterminals.proofs.Rests.Alternatives.{by_rules, from_rules, by_s
 use Rattle.xc_nonterminals.proofs.Rests.Advances.{Never}
 use Rattle.xc_nonterminals.proofs.Rests.Behinds.{token_derived, token_prefix}
 use Rattle.xc_nonterminals.proofs.Derivations.Forth.{prefix_forth, forth}
+use Rattle.xc_tree.specs.Terminals as terminal
 
 -- below no node
 same_below : (room : Room) → below room 0 ≡ room
@@ -71,7 +72,7 @@ abbrev pub lone : ℕ → List Part
 lone a = record { above = a; symbol = statement } ∷ []
 
 abbrev pub with_else : ℕ → List Part
-with_else a = record { above = a; symbol = closed } ∷ record { above = a; symbol = key 7 } ∷ record { above = a; symbol = statement } ∷ []
+with_else a = record { above = a; symbol = closed } ∷ record { above = a; symbol = terminal.else_word } ∷ record { above = a; symbol = statement } ∷ []
 
 -- the rest that ends with the statement, and the one that goes on with an `else`
 abbrev pub ending : (n a : ℕ) → (ValuesOf (lone a) → Bool) → (Extent → ValuesOf (lone a) → plain.Statement) → Rest plain.Statement
@@ -121,7 +122,7 @@ same_three a {x} {y} {p} {q} z e g = ap (λ (u : plain.Statement). all_three a u
 -- what ends before an `else` and is open goes on there
 at_else : {toks : List Tok} {j q : ℕ} {w u : plain.Statement} (p : Pos) → On toks j (Key 7) p → is_open u ≡ true → q ≡ j → w ≡ u → IsFront toks statement q w
 at_else {toks} {j} {q} p on shut e g = record {
-  goes_on = record { token = key 7; stands = (p, subst (λ (y : ℕ). On toks y (Key 7) p) (sym' e) on); among = refl };
+  goes_on = record { token = terminal.else_word; stands = (p, subst (λ (y : ℕ). On toks y (Key 7) p) (sym' e) on); among = refl };
   may = ap is_open g ∙ shut;
 }
 

@@ -5,7 +5,7 @@ use Rattle.xw_words.specs.declared.pos.Pos.{Pos}
 use Rattle.xc_tree.specs.declared.token.Tok.{Tok}
 use Rattle.xc_tree.specs.declared.token.Kind.{Kind}
 use Rattle.xc_tree.specs.declared.token.Kind.TheVariants.{Sym}
-use Rattle.xc_tree.specs.Symbol.{Symbol, sym, key, a_name, assign_op, Value}
+use Rattle.xc_tree.specs.Symbol.{Symbol, sym, a_name, assign_op, Value}
 use Rattle.xc_tree.specs.Derives.{On, named}
 use Rattle.xc_nonterminals.specs.Follows.{OneOf, StandsAt, first, has, is_same}
 use Rattle.xc_nonterminals.specs.declared.stop.Stop.{Stop}
@@ -17,6 +17,7 @@ use Rattle.xc_nonterminals.proofs.Rests.Opening.{keep, fronts}
 use Rattle.xc_nonterminals.proofs.Derivations.TokenSets.{is_same_eq}
 use Rattle.xc_nonterminals.proofs.Derivations.Single.{on_pos}
 use Rattle.xc_nonterminals.proofs.Reading.Paths.{Roomy, begin, at_word, over_symbol, lacks, none_left, finish}
+use Rattle.xc_tree.specs.Terminals as terminal
 
 -- one of some tokens is the first of them or one of the others
 pub first_of : {toks : List Tok} {i : ℕ} (t : Symbol) (ts : List Symbol) → OneOf toks i (t ∷ ts) → StandsAt toks i t ⊎ OneOf toks i ts
@@ -42,10 +43,10 @@ pub on_it : {toks : List Tok} {i : ℕ} {k : Kind} {p : Pos} → On toks i k p �
 on_it {toks} {i} {k} on d = subst (λ q. On toks i k q) (on_pos on d) on
 
 -- where a type stands, and either of its words leaves the same rests open
-pub at_a_type : {toks : List Tok} {room : ℕ} {s : Symbol} {i k : ℕ} {rs : List (Rest (Value s))} → Roomy toks room s i k rs → OneOf toks k (key 11 ∷ key 26 ∷ []) → keep (fronts s) (key 26) rs ≡ keep (fronts s) (key 11) rs → Roomy toks room s i k (keep (fronts s) (key 11) rs)
-at_a_type {toks} {room} {s} {i} {k} {rs} st o e = elim (first_of (key 11) (key 26 ∷ []) o) [
+pub at_a_type : {toks : List Tok} {room : ℕ} {s : Symbol} {i k : ℕ} {rs : List (Rest (Value s))} → Roomy toks room s i k rs → OneOf toks k (terminal.int_word ∷ terminal.unsigned_word ∷ []) → keep (fronts s) terminal.unsigned_word rs ≡ keep (fronts s) terminal.int_word rs → Roomy toks room s i k (keep (fronts s) terminal.int_word rs)
+at_a_type {toks} {room} {s} {i} {k} {rs} st o e = elim (first_of terminal.int_word (terminal.unsigned_word ∷ []) o) [
   | inl x ↦ at_word st x.1
-  | inr q ↦ elim (first_of (key 26) [] q) [
+  | inr q ↦ elim (first_of terminal.unsigned_word [] q) [
     | inl x ↦ subst (Roomy toks room s i k) e (at_word st x.1)
     | inr z ↦ absurd (none_of z)
   ]

@@ -5,7 +5,7 @@ use Rattle.xw_words.specs.declared.pos.Pos.{Pos}
 use Rattle.xc_tree.specs.declared.token.Tok.{Tok}
 use Rattle.xc_tree.specs.declared.token.Kind.TheVariants.{Name, Key, Sym}
 use Rattle.xc_tree.specs.Plain as plain
-use Rattle.xc_tree.specs.Symbol.{Symbol, sym, key, a_name, assign, block, body, call, rhs, statement}
+use Rattle.xc_tree.specs.Symbol.{Symbol, a_name, assign, block, body, call, rhs, statement}
 use Rattle.xc_tree.specs.Grammar.{statement_of}
 use Rattle.xc_tree.specs.Derives.{On, extent}
 use Rattle.xc_nonterminals.specs.declared.stop.Stop.{Stop}
@@ -19,6 +19,7 @@ use Rattle.xc_nonterminals.proofs.Rests.Choices.{all_open, pass_name, dead, stuc
 use Rattle.xc_nonterminals.proofs.Reading.Paths.{roomy, begin, at_symbol, lacks_symbol, over_symbol, over_word, over_name, taken, read, stops, unfit, finish}
 use Rattle.xc_nonterminals.proofs.Rests.Aheads.{name_symbol, name_else, read_ahead, stops_ahead}
 use Rattle.xc_nonterminals.proofs.Reading.Insides.{inner_roomy, inner_reads, inner_stopped, inner_unfit}
+use Rattle.xc_tree.specs.Terminals as terminal
 
 -- a fact for each of some tokens
 abbrev pub Each : List Symbol → (Symbol → Type 0) → Type 0
@@ -47,13 +48,13 @@ module _ (toks : List Tok) (room at : ℕ) where
 
   -- no room for a block
   pub body_deep : {p : Pos} → On toks at (Sym 2) p → TooDeep toks 0 body at at
-  body_deep {p} on = dead (sym 2) (all_open refl) (p, on) refl (lit< tt, tt)
+  body_deep {p} on = dead terminal.brace (all_open refl) (p, on) refl (lit< tt, tt)
 
   pub body_wrong : ((p : Pos) → On toks at (Sym 2) p → ⊥) → Refuses toks 0 body at at
-  body_wrong none = stuck (no_one (sym 2 ∷ []) (all_open refl) (λ o. no_brace o))
+  body_wrong none = stuck (no_one (terminal.brace ∷ []) (all_open refl) (λ o. no_brace o))
     where
-      no_brace : OneOf toks at (sym 2 ∷ []) → ⊥
-      no_brace o = each_of (sym 2 ∷ []) (λ t. StandsAt toks at t → ⊥) ((λ x. none x.0 x.1), tt) o.token o.among o.stands
+      no_brace : OneOf toks at (terminal.brace ∷ []) → ⊥
+      no_brace o = each_of (terminal.brace ∷ []) (λ t. StandsAt toks at t → ⊥) ((λ x. none x.0 x.1), tt) o.token o.among o.stands
 
   -- where no statement begins, and where one does and there is no room for it
   pub none_begins : {limit : ℕ} → (OneOf toks at begins_statement → ⊥) → Refuses toks limit statement at at
@@ -63,19 +64,19 @@ module _ (toks : List Tok) (room at : ℕ) where
   deep_begins t at_t e =
       let z : 0 < 1 = lit< tt in
       each_of begins_statement (λ t. StandsAt toks at t → TooDeep toks 0 statement at at)
-      ((λ s. dead (sym 6) (all_open refl) s refl (z, tt)), ((λ s. dead (sym 2) (all_open refl) s refl (z, tt)), ((λ s. dead (a_name) (all_open refl) s refl (z, (z, (z, (z, tt))))), ((λ s. dead (key 9) (all_open refl) s refl (z, (z, tt))), ((λ s. dead (key 29) (all_open refl) s refl (z, tt)), ((λ s. dead (key 6) (all_open refl) s refl (z, tt)), ((λ s. dead (key 8) (all_open refl) s refl (z, tt)), ((λ s. dead (key 19) (all_open refl) s refl (z, tt)), ((λ s. dead (key 0) (all_open refl) s refl (z, tt)), ((λ s. dead (key 4) (all_open refl) s refl (z, tt)), ((λ s. dead (key 15) (all_open refl) s refl (z, (z, tt))), ((λ s. dead (key 20) (all_open refl) s refl (z, tt)), ((λ s. dead (key 12) (all_open refl) s refl (z, tt)), ((λ s. dead (key 21) (all_open refl) s refl (z, tt)), tt)))))))))))))) t e at_t
+      ((λ s. dead terminal.semicolon (all_open refl) s refl (z, tt)), ((λ s. dead terminal.brace (all_open refl) s refl (z, tt)), ((λ s. dead (a_name) (all_open refl) s refl (z, (z, (z, (z, tt))))), ((λ s. dead terminal.if_word (all_open refl) s refl (z, (z, tt))), ((λ s. dead terminal.while_word (all_open refl) s refl (z, tt)), ((λ s. dead terminal.do_word (all_open refl) s refl (z, tt)), ((λ s. dead terminal.for_word (all_open refl) s refl (z, tt)), ((λ s. dead terminal.return_word (all_open refl) s refl (z, tt)), ((λ s. dead terminal.break_word (all_open refl) s refl (z, tt)), ((λ s. dead terminal.continue_word (all_open refl) s refl (z, tt)), ((λ s. dead terminal.par_word (all_open refl) s refl (z, (z, tt))), ((λ s. dead terminal.select_word (all_open refl) s refl (z, tt)), ((λ s. dead terminal.master_word (all_open refl) s refl (z, tt)), ((λ s. dead terminal.slave_word (all_open refl) s refl (z, tt)), tt)))))))))))))) t e at_t
 
   -- `break ;` and `continue ;`
   pub break_reads : {p q : Pos} → On toks at (Key 0) p → On toks (at + 1) (Sym 6) q → Reads toks (room + 1) statement at (at + 1 + 1) (statement_of (extent toks at (at + 1 + 1)) plain.break_out)
   break_reads a b = finish (over_symbol (over_word (begin refl (omega arith)) a refl) b refl) refl
 
-  pub break_stops : {p : Pos} (e : Stop) → On toks at (Key 0) p → Stopped toks (left (room + 1) 1) (sym 6) (at + 1) e → Stopped toks (room + 1) statement at e
+  pub break_stops : {p : Pos} (e : Stop) → On toks at (Key 0) p → Stopped toks (left (room + 1) 1) terminal.semicolon (at + 1) e → Stopped toks (room + 1) statement at e
   break_stops e a s = stops e (over_word (begin refl (omega arith)) a refl) s refl
 
   pub continue_reads : {p q : Pos} → On toks at (Key 4) p → On toks (at + 1) (Sym 6) q → Reads toks (room + 1) statement at (at + 1 + 1) (statement_of (extent toks at (at + 1 + 1)) plain.continue_on)
   continue_reads a b = finish (over_symbol (over_word (begin refl (omega arith)) a refl) b refl) refl
 
-  pub continue_stops : {p : Pos} (e : Stop) → On toks at (Key 4) p → Stopped toks (left (room + 1) 1) (sym 6) (at + 1) e → Stopped toks (room + 1) statement at e
+  pub continue_stops : {p : Pos} (e : Stop) → On toks at (Key 4) p → Stopped toks (left (room + 1) 1) terminal.semicolon (at + 1) e → Stopped toks (room + 1) statement at e
   continue_stops e a s = stops e (over_word (begin refl (omega arith)) a refl) s refl
 
   -- `return`
@@ -88,7 +89,7 @@ module _ (toks : List Tok) (room at : ℕ) where
       value_stops e s = stops e (lacks_symbol 6 (taken (over_word (begin refl (omega arith)) w refl) refl) none) (inner_stopped toks room rhs (at + 1) e s) refl
 
       module _ {j : ℕ} {v : plain.RightSide} (r : Reads toks room rhs (at + 1) j v) where
-        pub value_ends : (e : Stop) → Stopped toks (left (room + 1) 1) (sym 6) j e → Stopped toks (room + 1) statement at e
+        pub value_ends : (e : Stop) → Stopped toks (left (room + 1) 1) terminal.semicolon j e → Stopped toks (room + 1) statement at e
         value_ends e s = stops e (read (lacks_symbol 6 (taken (over_word (begin refl (omega arith)) w refl) refl) none) (inner_reads room r) refl) s refl
 
         pub return_reads : {q : Pos} → On toks j (Sym 6) q → Reads toks (room + 1) statement at (j + 1) (statement_of (extent toks at (j + 1)) (plain.return_with (Some v)))
@@ -96,17 +97,17 @@ module _ (toks : List Tok) (room at : ℕ) where
 
       module _ {j : ℕ} (u : Unfit toks room rhs (at + 1) j) where
         pub return_deep : {q : Pos} → On toks j (Sym 6) q → TooDeep toks (room + 1) statement at j
-        return_deep {q} b = dead (sym 6) (unfit (lacks_symbol 6 (taken (over_word (begin refl (omega arith)) w refl) refl) none) (inner_unfit room u) refl) (q, b) refl (omega arith, tt)
+        return_deep {q} b = dead terminal.semicolon (unfit (lacks_symbol 6 (taken (over_word (begin refl (omega arith)) w refl) refl) none) (inner_unfit room u) refl) (q, b) refl (omega arith, tt)
 
         pub return_wrong : ((q : Pos) → On toks j (Sym 6) q → ⊥) → Refuses toks (room + 1) statement at j
-        return_wrong lack = stuck (no_one (sym 6 ∷ []) (unfit (lacks_symbol 6 (taken (over_word (begin refl (omega arith)) w refl) refl) none) (inner_unfit room u) refl) (λ o. no_end o))
+        return_wrong lack = stuck (no_one (terminal.semicolon ∷ []) (unfit (lacks_symbol 6 (taken (over_word (begin refl (omega arith)) w refl) refl) none) (inner_unfit room u) refl) (λ o. no_end o))
           where
-            no_end : OneOf toks j (sym 6 ∷ []) → ⊥
-            no_end o = each_of (sym 6 ∷ []) (λ t. StandsAt toks j t → ⊥) ((λ x. lack x.0 x.1), tt) o.token o.among o.stands
+            no_end : OneOf toks j (terminal.semicolon ∷ []) → ⊥
+            no_end o = each_of (terminal.semicolon ∷ []) (λ t. StandsAt toks j t → ⊥) ((λ x. lack x.0 x.1), tt) o.token o.among o.stands
 
 -- those that a call and a transfer go on with
 abbrev pub others : List Symbol
-others = sym 0 ∷ sym 23 ∷ sym 24 ∷ sym 25 ∷ key 28 ∷ []
+others = terminal.paren ∷ terminal.at_sign ∷ terminal.sends ∷ terminal.receives ∷ terminal.when_word ∷ []
 
 -- statements that begin with a name
 module _ (toks : List Tok) (room at : ℕ) {x : List ℕ} {p : Pos} (n : On toks at (Name x) p) where
@@ -116,7 +117,7 @@ module _ (toks : List Tok) (room at : ℕ) {x : List ℕ} {p : Pos} (n : On toks
   pub call_stops : {q : Pos} (e : Stop) → On toks (at + 1) (Sym 0) q → Stopped toks room call at e → Stopped toks (room + 1) statement at e
   call_stops e b s = stops_ahead e (name_symbol (begin refl (omega arith)) n b) (over_name (begin refl tt) n refl) (inner_stopped toks room call at e s) refl
 
-  pub call_ends : {q : Pos} {k : ℕ} {c : plain.Call} (e : Stop) → On toks (at + 1) (Sym 0) q → Reads toks room call at k c → at + 1 ≤ k → Stopped toks (left (room + 1) 1) (sym 6) k e → Stopped toks (room + 1) statement at e
+  pub call_ends : {q : Pos} {k : ℕ} {c : plain.Call} (e : Stop) → On toks (at + 1) (Sym 0) q → Reads toks room call at k c → at + 1 ≤ k → Stopped toks (left (room + 1) 1) terminal.semicolon k e → Stopped toks (room + 1) statement at e
   call_ends e b c l s = stops e (read_ahead (name_symbol (begin refl (omega arith)) n b) (inner_reads room c) l refl) s refl
 
   module _ (none : OneOf toks (at + 1) others → ⊥) where
@@ -124,7 +125,7 @@ module _ (toks : List Tok) (room at : ℕ) {x : List ℕ} {p : Pos} (n : On toks
     assign_stops e h s = stops_ahead e (name_else others (begin refl (omega arith)) n none) (inner_roomy room (roomy (pass_name (all_open refl) n refl h) h)) (inner_stopped toks room assign at e s) refl
 
     module _ {k : ℕ} {c : plain.Action} (a : Reads toks room assign at k c) (l : at + 1 ≤ k) where
-      pub assign_ends : (e : Stop) → Stopped toks (left (room + 1) 1) (sym 6) k e → Stopped toks (room + 1) statement at e
+      pub assign_ends : (e : Stop) → Stopped toks (left (room + 1) 1) terminal.semicolon k e → Stopped toks (room + 1) statement at e
       assign_ends e s = stops e (read_ahead (name_else others (begin refl (omega arith)) n none) (inner_reads room a) l refl) s refl
 
       pub assign_reads : {r : Pos} → On toks k (Sym 6) r → Reads toks (room + 1) statement at (k + 1) (statement_of (extent toks at (k + 1)) c)
@@ -141,4 +142,4 @@ module _ (toks : List Tok) (room at : ℕ) {x : List ℕ} {p : Pos} (n : On toks
       all : Each assigning (λ t. StandsAt toks (at + 1) t → TooDeep toks 1 statement at (at + 1))
       all =
           let z : 1 < 2 = lit< tt in let l : 1 ≤ 1 = lit≤ tt in
-          ((λ s. dead (sym 22) (pass_name (all_open refl) n refl l) s refl (z, tt)), ((λ s. dead (sym 4) (pass_name (all_open refl) n refl l) s refl (z, (z, (z, (z, tt))))), ((λ s. dead (sym 35) (pass_name (all_open refl) n refl l) s refl (z, tt)), ((λ s. dead (sym 36) (pass_name (all_open refl) n refl l) s refl (z, tt)), ((λ s. dead (sym 37) (pass_name (all_open refl) n refl l) s refl (z, tt)), ((λ s. dead (sym 38) (pass_name (all_open refl) n refl l) s refl (z, tt)), ((λ s. dead (sym 39) (pass_name (all_open refl) n refl l) s refl (z, tt)), ((λ s. dead (sym 40) (pass_name (all_open refl) n refl l) s refl (z, tt)), ((λ s. dead (sym 41) (pass_name (all_open refl) n refl l) s refl (z, tt)), ((λ s. dead (sym 42) (pass_name (all_open refl) n refl l) s refl (z, tt)), ((λ s. dead (sym 43) (pass_name (all_open refl) n refl l) s refl (z, tt)), ((λ s. dead (sym 44) (pass_name (all_open refl) n refl l) s refl (z, tt)), ((λ s. dead (sym 45) (pass_name (all_open refl) n refl l) s refl (z, tt)), ((λ s. dead (sym 46) (pass_name (all_open refl) n refl l) s refl (z, tt)), tt))))))))))))))
+          ((λ s. dead terminal.equals (pass_name (all_open refl) n refl l) s refl (z, tt)), ((λ s. dead terminal.bracket (pass_name (all_open refl) n refl l) s refl (z, (z, (z, (z, tt))))), ((λ s. dead terminal.plus_plus (pass_name (all_open refl) n refl l) s refl (z, tt)), ((λ s. dead terminal.minus_minus (pass_name (all_open refl) n refl l) s refl (z, tt)), ((λ s. dead terminal.plus_equals (pass_name (all_open refl) n refl l) s refl (z, tt)), ((λ s. dead terminal.minus_equals (pass_name (all_open refl) n refl l) s refl (z, tt)), ((λ s. dead terminal.star_equals (pass_name (all_open refl) n refl l) s refl (z, tt)), ((λ s. dead terminal.slash_equals (pass_name (all_open refl) n refl l) s refl (z, tt)), ((λ s. dead terminal.percent_equals (pass_name (all_open refl) n refl l) s refl (z, tt)), ((λ s. dead terminal.ampersand_equals (pass_name (all_open refl) n refl l) s refl (z, tt)), ((λ s. dead terminal.bar_equals (pass_name (all_open refl) n refl l) s refl (z, tt)), ((λ s. dead terminal.caret_equals (pass_name (all_open refl) n refl l) s refl (z, tt)), ((λ s. dead terminal.shift_up_equals (pass_name (all_open refl) n refl l) s refl (z, tt)), ((λ s. dead terminal.shift_down_equals (pass_name (all_open refl) n refl l) s refl (z, tt)), tt))))))))))))))

@@ -6,7 +6,7 @@ use Rattle.xc_tree.specs.declared.token.Kind.TheVariants.{Name, Sym}
 use Rattle.xc_tree.specs.declared.tree.Id.{Id}
 use Rattle.xc_tree.specs.Plain as plain
 use Rattle.xc_tree.specs.Symbol as symbol
-use Rattle.xc_tree.specs.Symbol.{Symbol, sym, key, a_name, maybe, statement, input, dest, stamp, time, expr}
+use Rattle.xc_tree.specs.Symbol.{Symbol, a_name, maybe, statement, input, dest, stamp, time, expr}
 use Rattle.xc_tree.specs.Grammar.{statement_of}
 use Rattle.xc_tree.specs.Derives.{On, extent}
 use Rattle.xc_nonterminals.specs.declared.stop.Stop.{Stop}
@@ -26,18 +26,19 @@ use Rattle.xc_nonterminals.proofs.Rests.Aheads.{Ahead, name_symbol, name_word, r
 use Rattle.xc_nonterminals.proofs.Reading.Insides.{inner_reads, inner_stopped}
 use Rattle.xc_nonterminals.proofs.Reading.InsideRows.{inner_row, inner_row_stopped}
 use Rattle.xc_nonterminals.proofs.Reading.RowSteps.{read_row, stops_row}
+use Rattle.xc_tree.specs.Terminals as terminal
 
 abbrev part : Symbol → Part
 part s = record { above = 1; symbol = s }
 
 -- an input; an output behind its name; with its time before it, an output and an input
 abbrev an_input : Rest plain.Statement
-an_input = record { need = 1; parts = part input ∷ part (sym 6) ∷ []; fits = λ x. true; make = λ e (d, u). statement_of e (plain.input d) }
+an_input = record { need = 1; parts = part input ∷ part terminal.semicolon ∷ []; fits = λ x. true; make = λ e (d, u). statement_of e (plain.input d) }
 
 abbrev output_behind : Id → Rest plain.Statement
 output_behind n = record {
   need = 1;
-  parts = part (sym 24) ∷ part expr ∷ part (maybe stamp) ∷ part (sym 6) ∷ [];
+  parts = part terminal.sends ∷ part expr ∷ part (maybe stamp) ∷ part terminal.semicolon ∷ [];
   fits = λ x. true;
   make = λ e (p, (v, (s, (q, u)))). statement_of e (plain.output (sent n None v s));
 }
@@ -45,7 +46,7 @@ output_behind n = record {
 abbrev timed_output : Id → Rest plain.Statement
 timed_output n = record {
   need = 1;
-  parts = part time ∷ part (sym 24) ∷ part expr ∷ part (maybe stamp) ∷ part (sym 6) ∷ [];
+  parts = part time ∷ part terminal.sends ∷ part expr ∷ part (maybe stamp) ∷ part terminal.semicolon ∷ [];
   fits = λ x. true;
   make = λ e (t, (p, (v, (s, (q, u))))). statement_of e (plain.output (sent n (Some t) v s));
 }
@@ -53,7 +54,7 @@ timed_output n = record {
 abbrev timed_input : Id → Rest plain.Statement
 timed_input n = record {
   need = 1;
-  parts = part time ∷ part (sym 25) ∷ part dest ∷ part (maybe stamp) ∷ part (sym 6) ∷ [];
+  parts = part time ∷ part terminal.receives ∷ part dest ∷ part (maybe stamp) ∷ part terminal.semicolon ∷ [];
   fits = λ x. true;
   make = λ e (t, (p, (d, (s, (q, u))))). statement_of e (plain.input (received n (symbol.at_time t) d s));
 }
@@ -63,21 +64,21 @@ both_timed n = one_head (one_head no_head)
 
 module _ (toks : List Tok) (room i : ℕ) where
   -- an input, where `:>` or `when` stands behind the name
-  module _ {x : List ℕ} {p : Pos} (named : On toks i (Name x) p) (o : OneOf toks (i + 1) (sym 25 ∷ key 28 ∷ [])) where
+  module _ {x : List ℕ} {p : Pos} (named : On toks i (Name x) p) (o : OneOf toks (i + 1) (terminal.receives ∷ terminal.when_word ∷ [])) where
     input_ahead : Ahead toks (room + 1) statement i i (i + 1) (an_input ∷ [])
-    input_ahead = elim (first_of (sym 25) (key 28 ∷ []) o) [
+    input_ahead = elim (first_of terminal.receives (terminal.when_word ∷ []) o) [
       | inl y ↦ name_symbol (begin refl (omega arith)) named y.1
-      | inr q ↦ elim (first_of (key 28) [] q) [ inl y ↦ name_word (begin refl (omega arith)) named y.1 | inr z ↦ absurd (none_of z) ]
+      | inr q ↦ elim (first_of terminal.when_word [] q) [ inl y ↦ name_word (begin refl (omega arith)) named y.1 | inr z ↦ absurd (none_of z) ]
     ]
 
     pub input_stops : (e : Stop) → Stopped toks room input i e → Stopped toks (room + 1) statement i e
     input_stops e y = stops_ahead e input_ahead (over_name (begin refl tt) named refl) (inner_stopped toks room input i e y) refl
 
     module _ {k : ℕ} {v : plain.Input} (r : Reads toks room input i k v) (l : i + 1 ≤ k) where
-      pub input_ends : (e : Stop) → Stopped toks room (sym 6) k e → Stopped toks (room + 1) statement i e
-      input_ends e y = stops e (read_ahead input_ahead (inner_reads room r) l refl) (inner_stopped toks room (sym 6) k e y) refl
+      pub input_ends : (e : Stop) → Stopped toks room terminal.semicolon k e → Stopped toks (room + 1) statement i e
+      input_ends e y = stops e (read_ahead input_ahead (inner_reads room r) l refl) (inner_stopped toks room terminal.semicolon k e y) refl
 
-      pub input_reads : {j : ℕ} {q : Pos} → Reads toks room (sym 6) k j q → Reads toks (room + 1) statement i j (statement_of (extent toks i j) (plain.input v))
+      pub input_reads : {j : ℕ} {q : Pos} → Reads toks room terminal.semicolon k j q → Reads toks (room + 1) statement i j (statement_of (extent toks i j) (plain.input v))
       input_reads y = finish (read (read_ahead input_ahead (inner_reads room r) l refl) (inner_reads room y) refl) refl
 
   module _ {k : ℕ} {n : Id} (name : Reads toks room a_name i k n) where
@@ -98,7 +99,7 @@ module _ (toks : List Tok) (room i : ℕ) where
       output_read x = finish (read_row 1 output_row [] output_open (inner_row room x) refl refl) refl
 
     -- an output or an input with a time, where `@` stands behind the name
-    module _ (o : StandsAt toks (i + 1) (sym 23)) where
+    module _ (o : StandsAt toks (i + 1) terminal.at_sign) where
       timed_open : Roomy toks (room + 1) statement i k (timed_output n ∷ timed_input n ∷ [])
       timed_open =
           let named = pass_name {room = room + 1} {s = statement} (all_open refl) name_here.1 refl (omega arith) in

@@ -5,7 +5,7 @@ use Rattle.xw_words.specs.declared.pos.Pos.{Pos}
 use Rattle.xc_tree.specs.declared.token.Tok.{Tok}
 use Rattle.xc_tree.specs.declared.token.Kind.TheVariants.{Name, Num, Key, Sym}
 use Rattle.xc_tree.specs.Plain as plain
-use Rattle.xc_tree.specs.Symbol.{sym, key, a_name, a_number, expr, level, lval}
+use Rattle.xc_tree.specs.Symbol.{a_name, a_number, expr, level, lval}
 use Rattle.xc_tree.specs.Derives.{On}
 use Rattle.xc_nonterminals.specs.declared.stop.Stop.{Stop}
 use Rattle.xc_nonterminals.specs.Follows.{OneOf, begins_operand}
@@ -14,6 +14,7 @@ use Rattle.xc_nonterminals.specs.Stops.{Stopped}
 use Rattle.xc_nonterminals.specs.Operands.{IsType}
 use Rattle.xc_nonterminals.proofs.Reading.Paths.{Roomy, begin, roomy, over_symbol, over_word, over_name, over_number, lacks_symbol, read, stops, finish, none_left}
 use Rattle.xc_nonterminals.proofs.Rests.Choices.{all_open, pass_symbol, spread_out, dead, no_one, stuck}
+use Rattle.xc_tree.specs.Terminals as terminal
 
 abbrev node : plain.Form → Pos → plain.Expression
 node f p = plain.expression f p
@@ -105,16 +106,16 @@ module _ {toks : List Tok} {at : ℕ} where
   pub deep_sign : (o : ℕ) {p : Pos} → 13 ≤ o → o ≤ 16 → On toks at (Sym o) p → TooDeep toks 0 (level 0) at at
   deep_sign o {p} l m on =
       each_sign (λ x. On toks at (Sym x) p → TooDeep toks 0 (level 0) at at)
-      (λ on. dead (sym 13) (all_open refl) (p, on) refl (omega arith, tt))
-      (λ on. dead (sym 14) (all_open refl) (p, on) refl (omega arith, tt))
-      (λ on. dead (sym 15) (all_open refl) (p, on) refl (omega arith, tt))
-      (λ on. dead (sym 16) (all_open refl) (p, on) refl (omega arith, tt)) o l m on
+      (λ on. dead terminal.tilde (all_open refl) (p, on) refl (omega arith, tt))
+      (λ on. dead terminal.bang (all_open refl) (p, on) refl (omega arith, tt))
+      (λ on. dead terminal.plus (all_open refl) (p, on) refl (omega arith, tt))
+      (λ on. dead terminal.minus (all_open refl) (p, on) refl (omega arith, tt)) o l m on
 
   pub deep_int : {p q : Pos} → On toks at (Sym 0) p → On toks (at + 1) (Key 11) q → TooDeep toks 0 (level 0) at (at + 1)
-  deep_int {p} {q} opened on = dead (key 11) (pass_symbol (all_open refl) opened refl tt) (q, on) refl (omega arith, tt)
+  deep_int {p} {q} opened on = dead terminal.int_word (pass_symbol (all_open refl) opened refl tt) (q, on) refl (omega arith, tt)
 
   pub deep_unsigned : {p q : Pos} → On toks at (Sym 0) p → On toks (at + 1) (Key 26) q → TooDeep toks 0 (level 0) at (at + 1)
-  deep_unsigned {p} {q} opened on = dead (key 26) (pass_symbol (all_open refl) opened refl tt) (q, on) refl (omega arith, tt)
+  deep_unsigned {p} {q} opened on = dead terminal.unsigned_word (pass_symbol (all_open refl) opened refl tt) (q, on) refl (omega arith, tt)
 
 module _ {toks : List Tok} (room : ℕ) {at : ℕ} where
   -- no operand begins here
@@ -122,9 +123,9 @@ module _ {toks : List Tok} (room : ℕ) {at : ℕ} where
   no_operand none = stuck (no_one begins_operand (all_open refl) none)
 
   -- in brackets, which aren't those of a cast
-  module _ {p : Pos} (opened : On toks at (Sym 0) p) (none : OneOf toks (at + 1) (key 11 ∷ key 26 ∷ []) → ⊥) where
-    inside : Roomy toks room (level 0) at (at + 1) (record { need = 0; parts = record { above = 0; symbol = expr } ∷ record { above = 0; symbol = sym 1 } ∷ []; fits = λ x. true; make = λ e x. x.0 } ∷ [])
-    inside = roomy (no_one (key 11 ∷ key 26 ∷ []) (pass_symbol (all_open refl) opened refl tt) none) tt
+  module _ {p : Pos} (opened : On toks at (Sym 0) p) (none : OneOf toks (at + 1) (terminal.int_word ∷ terminal.unsigned_word ∷ []) → ⊥) where
+    inside : Roomy toks room (level 0) at (at + 1) (record { need = 0; parts = record { above = 0; symbol = expr } ∷ record { above = 0; symbol = terminal.end_paren } ∷ []; fits = λ x. true; make = λ e x. x.0 } ∷ [])
+    inside = roomy (no_one (terminal.int_word ∷ terminal.unsigned_word ∷ []) (pass_symbol (all_open refl) opened refl tt) none) tt
 
     pub reads_brackets : {j : ℕ} {v : plain.Expression} {q : Pos} → Reads toks room expr (at + 1) j v → On toks j (Sym 1) q → Reads toks room (level 0) at (j + 1) v
     reads_brackets r close = finish (over_symbol (read inside r refl) close refl) refl

@@ -23,6 +23,7 @@ use Rattle.xc_nonterminals.proofs.Rests.Rests.{Part, Rest, Open, Stands}
 use Rattle.xc_nonterminals.proofs.Rests.Rests as rest
 use Rattle.xc_nonterminals.proofs.Rests.Opening.{within}
 use Rattle.xc_nonterminals.proofs.Reading.Paths.{Roomy, roomy, read, stops, over_symbol, lacks_symbol, none_left, finish}
+use Rattle.xc_tree.specs.Terminals as terminal
 
 abbrev chosen : plain.Expression → plain.Expression → plain.Expression → Pos → plain.Expression
 chosen c a b p = plain.expression (plain.choice c a b) p
@@ -49,7 +50,7 @@ module _ (toks : List Tok) where
   expr_goes k g = record { token = g.token; stands = g.stands; among = has_within (follows (level 10)) (follows expr) g.token refl g.among }
 
   pub question_goes : {k : ℕ} {p : Pos} → On toks k (Sym 9) p → GoesOn toks expr k
-  question_goes {k} {p} on = record { token = sym 9; stands = (p, on); among = refl }
+  question_goes {k} {p} on = record { token = terminal.question; stands = (p, on); among = refl }
 
   front : {k : ℕ} {w : plain.Expression} → GoesOn toks expr k → IsFront toks expr k w
   front g = record { goes_on = g; may = refl }
@@ -117,7 +118,7 @@ module _ (toks : List Tok) where
     pub tested : Derives toks (below room 1) (level 10) i question test
     pub pos : Pos
     pub on : On toks question (Sym 9) pos
-    pub rest : Begun toks (below room 1) (expr ∷ sym 8 ∷ expr ∷ []) (question + 1) n
+    pub rest : Begun toks (below room 1) (expr ∷ terminal.colon ∷ expr ∷ []) (question + 1) n
 
   pub expr_to : {room : Room} {i n : ℕ} → Prefix toks room expr i n → Prefix toks room (level 10) i n ⊎ ChoosesTo room i n
   expr_to {room} {i} {n} q = elim (by_starts toks expr q) [
@@ -135,7 +136,7 @@ module _ (toks : List Tok) where
     ]
     | inr (inr (inr (inl (h, inr (k, c, d, inr (m, p, t, y)))))) ↦
         let z = token_is toks t in
-        inr (record { one = h; test = c; question = k; tested = d; pos = p; on = z.1; rest = subst (λ x. Begun toks (below room 1) (expr ∷ sym 8 ∷ expr ∷ []) x n) z.0 y })
+        inr (record { one = h; test = c; question = k; tested = d; pos = p; on = z.1; rest = subst (λ x. Begun toks (below room 1) (expr ∷ terminal.colon ∷ expr ∷ []) x n) z.0 y })
     | inr (inr (inr (inr e))) ↦ absurd e
   ]
 
@@ -204,18 +205,18 @@ module _ (toks : List Tok) where
         abbrev behind : Rest plain.Expression
         behind = record {
           need = 1;
-          parts = record { above = 1; symbol = expr } ∷ record { above = 1; symbol = sym 8 } ∷ record { above = 1; symbol = expr } ∷ [];
+          parts = record { above = 1; symbol = expr } ∷ record { above = 1; symbol = terminal.colon } ∷ record { above = 1; symbol = expr } ∷ [];
           fits = λ x. true;
           make = λ e x. chosen v x.0 x.1.1.0 p;
         }
 
-        back : (wide : Room) {n : ℕ} → rest.BeginsOf toks wide behind.parts (k + 1) n → Begun toks (below wide 1) (expr ∷ sym 8 ∷ expr ∷ []) (k + 1) n
+        back : (wide : Room) {n : ℕ} → rest.BeginsOf toks wide behind.parts (k + 1) n → Begun toks (below wide 1) (expr ∷ terminal.colon ∷ expr ∷ []) (k + 1) n
         back wide (inl q) = inl q.1
         back wide (inr (m, a, h, d, inl q)) = inr (m, a, d, inl q.1)
         back wide (inr (m, a, h, d, inr (l, u, g, e, inl q))) = inr (m, a, d, inr (l, u, e, inl q.1))
         back wide (inr (m, a, h, d, inr (l, u, g, e, inr (i, b, f, c, x)))) = absurd x
 
-        forward : (wide : Room) {n : ℕ} → HasRoom wide 1 → Begun toks (below wide 1) (expr ∷ sym 8 ∷ expr ∷ []) (k + 1) n → rest.BeginsOf toks wide behind.parts (k + 1) n
+        forward : (wide : Room) {n : ℕ} → HasRoom wide 1 → Begun toks (below wide 1) (expr ∷ terminal.colon ∷ expr ∷ []) (k + 1) n → rest.BeginsOf toks wide behind.parts (k + 1) n
         forward wide one (inl q) = inl (one, q)
         forward wide one (inr (m, a, d, inl q)) = inr (m, a, one, d, inl (one, q))
         forward wide one (inr (m, a, d, inr (l, u, e, inl q))) = inr (m, a, one, d, inr (l, u, one, e, inl (one, q)))
@@ -247,7 +248,7 @@ module _ (toks : List Tok) where
             here = asked one left on refl;
             most = λ n q. elim (expr_to q) [
               | inl y ↦ let a = r.most n (widen_prefix toks (any_wider wide) y) in inl (omega arith)
-              | inr c ↦ let e = same_test c.tested c.on in inr (inl (one, forward wide one (subst (λ x. Begun toks (below wide 1) (expr ∷ sym 8 ∷ expr ∷ []) (x + 1) n) e.0 c.rest)))
+              | inr c ↦ let e = same_test c.tested c.on in inr (inl (one, forward wide one (subst (λ x. Begun toks (below wide 1) (expr ∷ terminal.colon ∷ expr ∷ []) (x + 1) n) e.0 c.rest)))
             ];
           }
 

@@ -13,6 +13,7 @@ use Rattle.xc_nonterminals.specs.Reading.{GoesOn}
 use Rattle.xc_nonterminals.specs.Levels.{levels, level_of, IsOperator}
 use Rattle.xc_nonterminals.proofs.Derivations.TokenSets.{false_true}
 use Rattle.xc_nonterminals.proofs.Derivations.Inverse.{Ends, Starts, by_rules, from_rules, by_starts}
+use Rattle.xc_tree.specs.Terminals as terminal
 
 abbrev Member : ℕ → List ℕ → Type 0
 Member s [] = ⊥
@@ -136,7 +137,7 @@ module _ (toks : List Tok) where
   has_member s (o ∷ os) (inr m) = or_right (is_same (sym o) (sym s)) (has (map sym os) (sym s)) (has_member s os m)
 
   pub bracket_goes_on : (m : ℕ) {i : ℕ} {p : Pos} → On toks i (Sym 4) p → GoesOn toks (level m) i
-  bracket_goes_on m {i} {p} on = record { token = sym 4; stands = (p, on); among = refl }
+  bracket_goes_on m {i} {p} on = record { token = terminal.bracket; stands = (p, on); among = refl }
 
   has_append_left : (xs ys : List Symbol) (t : Symbol) → has xs t ≡ true → has (xs ++ ys) t ≡ true
   has_append_left [] ys t e = absurd (cc)
@@ -165,7 +166,7 @@ module _ (toks : List Tok) where
   operator_goes_on m {i} {l} {o} h s = record {
     token = sym o.mark;
     stands = (o.pos, s.on);
-    among = or_right (is_same (sym 4) (sym o.mark)) (has (operators_to m) (sym o.mark)) (has_up_to l m o.mark h (among_level o.mark l s.binds));
+    among = or_right (is_same terminal.bracket (sym o.mark)) (has (operators_to m) (sym o.mark)) (has_up_to l m o.mark h (among_level o.mark l s.binds));
   }
 
   -- what a level goes on with
@@ -192,12 +193,12 @@ module _ (toks : List Tok) where
     | inr h ↦ let y = same_symbol (operators (suc m)) t on h in operates {l = m} (omega arith) (record { on = y.1; binds = of_all (suc m) y.0.mark (operators (suc m)) (all_levels (suc m)) y.2 })
   ]
 
-  index_onward : (m i : ℕ) (t : Symbol) → StandsAt toks i t → is_same (sym 4) t ≡ true → Onward m i
+  index_onward : (m i : ℕ) (t : Symbol) → StandsAt toks i t → is_same terminal.bracket t ≡ true → Onward m i
   index_onward m i (sym s) on e = index (subst (λ k. On toks i (Sym k) on.0) (sym' (eqb-true 4 s e)) on.1)
   index_onward m i t on e = absurd (false_true e)
 
   pub goes_onward : (m i : ℕ) → GoesOn toks (level m) i → Onward m i
-  goes_onward m i g = elim (or_cases (is_same (sym 4) g.token) (has (operators_to m) g.token) g.among) [
+  goes_onward m i g = elim (or_cases (is_same terminal.bracket g.token) (has (operators_to m) g.token) g.among) [
     | inl h ↦ index_onward m i g.token g.stands h
     | inr h ↦ onward_by m i g.token g.stands h
   ]

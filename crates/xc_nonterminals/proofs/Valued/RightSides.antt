@@ -34,6 +34,7 @@ use Rattle.xc_nonterminals.proofs.Valued.Choosing.{has_within, no_question, alon
 use Rattle.xc_nonterminals.proofs.Valued.Atoms.{each_sign, reads_name, deep_name}
 use Rattle.xc_nonterminals.proofs.Reading.Tests.{from_among, among_of, operator_after, bracket_after, question_after, after_is}
 use Rattle.xc_nonterminals.proofs.Reading.Runs.{no_first}
+use Rattle.xc_tree.specs.Terminals as terminal
 
 -- the place of a token that stands there
 pub place_is : (toks : List Tok) (i : ℕ) (t : Tok) → i < length toks → position (slice_get toks i) ≡ (get_or toks i t).pos
@@ -341,10 +342,10 @@ module _ (toks : List Tok) where
   -- a call
   module _ {room at : ℕ} {t : List ℕ} {p q : Pos} (on : On toks at (Name t) p) (paren : On toks (at + 1) (Sym 0) q) where
     pub reads_result : {j : ℕ} {c : plain.Call} → at + 1 ≤ j → Reads toks room call at j c → Reads toks room rhs at j (plain.result c)
-    reads_result h r = finish (read_ahead (not_first (begin refl tt) (alone_read (name_alone on (paren_ends paren))) (omega arith) (sym 0) (q, paren) refl) r h refl) refl
+    reads_result h r = finish (read_ahead (not_first (begin refl tt) (alone_read (name_alone on (paren_ends paren))) (omega arith) terminal.paren (q, paren) refl) r h refl) refl
 
   pub stops_result : (room : ℕ) {at : ℕ} {t : List ℕ} {p q : Pos} → On toks at (Name t) p → On toks (at + 1) (Sym 0) q → (e : Stop) → Stopped toks room call at e → Stopped toks room rhs at e
-  stops_result room {q} on paren e r = stops_ahead e (not_first (begin refl tt) (alone_read (name_alone on (paren_ends paren))) (omega arith) (sym 0) (q, paren) refl) (over_name (begin refl tt) on refl) r refl
+  stops_result room {q} on paren e r = stops_ahead e (not_first (begin refl tt) (alone_read (name_alone on (paren_ends paren))) (omega arith) terminal.paren (q, paren) refl) (over_name (begin refl tt) on refl) r refl
 
   -- a name with no room
   module _ {at : ℕ} {t : List ℕ} {p : Pos} (on : On toks at (Name t) p) (none : (q : Pos) → On toks (at + 1) (Sym 0) q → ⊥) where

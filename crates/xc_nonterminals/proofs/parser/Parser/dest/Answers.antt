@@ -1,9 +1,9 @@
 use Rattle.std.proofs.Common.{refl, [], ◌∷◌}
-use Rattle.xc_tree.specs.Symbol.{key}
 use Rattle.xc_nonterminals.proofs.Reading.Exits.{handed_on}
 use Rattle.xc_nonterminals.proofs.Reading.Paths.{begin, over_word, lacks, lacks_word, read, stops, finish}
 use Rattle.xc_nonterminals.proofs.Stating.Marks.{at_a_type}
 use Rattle.xc_nonterminals.proofs.parser.Parser.dest.Goals as goal
+use Rattle.xc_tree.specs.Terminals as terminal
 
 pub returns-then-is_word-clause-read : goal.returns-then-is_word-clause-read
 returns-then-is_word-clause-read c =
@@ -31,10 +31,10 @@ returns-in_err-lval-clause-stopped c =
     let no_void = c.is_word.ensures.no c.if-is_word.false in
     let no_type = c.begins_type.ensures.no c.if-begins_type.false in
     handed_on _ c.from_residual-in_err-lval.result c.from_residual-in_err-lval.ensures.1
-    (stops _ (lacks (key 11 ∷ key 26 ∷ []) (lacks_word 27 (begin refl tt) no_void) no_type) c.in_err-lval.ensures.stopped refl)
+    (stops _ (lacks (terminal.int_word ∷ terminal.unsigned_word ∷ []) (lacks_word 27 (begin refl tt) no_void) no_type) c.in_err-lval.ensures.stopped refl)
 
 pub returns-clause-read : goal.returns-clause-read
 returns-clause-read c =
     let no_void = c.is_word.ensures.no c.if-is_word.false in
     let no_type = c.begins_type.ensures.no c.if-begins_type.false in
-    finish (read (lacks (key 11 ∷ key 26 ∷ []) (lacks_word 27 (begin refl tt) no_void) no_type) c.in_ok-lval.ensures.read refl) refl
+    finish (read (lacks (terminal.int_word ∷ terminal.unsigned_word ∷ []) (lacks_word 27 (begin refl tt) no_void) no_type) c.in_ok-lval.ensures.read refl) refl

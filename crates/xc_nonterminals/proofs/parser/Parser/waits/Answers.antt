@@ -1,21 +1,21 @@
 use Rattle.std.proofs.Common.{refl}
-use Rattle.xc_tree.specs.Symbol.{sym}
 use Rattle.xc_nonterminals.proofs.Reading.Exits.{handed_on}
 use Rattle.xc_nonterminals.proofs.Reading.Paths.{begin, over_word, at_symbol, lacks_symbol, lacks_word, read, stops, finish}
 use Rattle.xc_nonterminals.proofs.Rests.Unfinished.{unfinished}
 use Rattle.xc_nonterminals.proofs.Stating.Marks.{on_it}
 use Rattle.xc_nonterminals.proofs.parser.Parser.waits.Goals as goal
+use Rattle.xc_tree.specs.Terminals as terminal
 
 pub returns-in_err-time-clause-stopped : goal.returns-in_err-time-clause-stopped
 returns-in_err-time-clause-stopped c =
     let at = (c.is_symbol.ensures.yes c.if-is_symbol.true).1 in
     handed_on _ c.from_residual.result c.from_residual.ensures.1
-    (stops _ (unfinished (at_symbol (begin refl tt) at.1) (record { token = sym 23; stands = at; among = refl })) c.in_err-time.ensures.stopped refl)
+    (stops _ (unfinished (at_symbol (begin refl tt) at.1) (record { token = terminal.at_sign; stands = at; among = refl })) c.in_err-time.ensures.stopped refl)
 
 pub returns-then-is_symbol-clause-read : goal.returns-then-is_symbol-clause-read
 returns-then-is_symbol-clause-read c =
     let at = (c.is_symbol.ensures.yes c.if-is_symbol.true).1 in
-    finish (read (unfinished (at_symbol (begin refl tt) at.1) (record { token = sym 23; stands = at; among = refl })) c.in_ok-time.ensures.read refl) refl
+    finish (read (unfinished (at_symbol (begin refl tt) at.1) (record { token = terminal.at_sign; stands = at; among = refl })) c.in_ok-time.ensures.read refl) refl
 
 pub returns-then-not-is_word-clause-read : goal.returns-then-not-is_word-clause-read
 returns-then-not-is_word-clause-read c =
