@@ -14,6 +14,7 @@ from .places import Moves, Step, code_now, path_now, words_now
 Files = dict[str, str]
 
 BEFORE, BEHIND = r"(?<![\w.'-])", r"(?![\w'-])"
+OPENED = re.compile(r"(\bopen [^{}]* use \{[^{}]*\})")
 QUOTED = re.compile(r"`[^`\n]+`")
 REMARK = {".antt": re.compile(r"(?:^|(?<=\s))--(?:\s|$)"), ".rt": re.compile(r"//")}
 HOME = re.compile(r"crates/(?P<crate>\w+)/(?P<kind>src|specs|proofs|must-fail)/(?P<inside>.*)")
@@ -93,11 +94,12 @@ def code_of(text: str, ending: str) -> str:
     return "\n".join(code for code, _ in parts_of(text, ending))
 
 
-def changed(text: str, ending: str, pattern: str, new: str, quoted: str = "") -> str:
-    """The text with what the pattern finds in its code changed, and what is quoted so in its comments."""
+def changed(text: str, ending: str, pattern: str, new: str, quoted: str = "", has_fields: bool = True) -> str:
+    """The text with what the pattern finds in its code changed, and what is quoted so in its comments. What a record is opened for are fields."""
     lines = []
     for code, remark in parts_of(text, ending):
-        code = re.sub(pattern, new, code)
+        parts = [code] if has_fields else OPENED.split(code)
+        code = "".join(part if at % 2 else re.sub(pattern, new, part) for at, part in enumerate(parts))
         if quoted:
             remark = QUOTED.sub(lambda it: re.sub(rf"(?<![\w.-]){quoted}(?![\w-])", new, it[0]), remark)
         lines.append(code + remark)
@@ -153,10 +155,11 @@ def word_now(path: str, text: str, word: Word, refused: list[str]) -> str:
             text = changed(text, ending, rf"^(\s+){old}(?=,$|\(| \{{)", rf"\g<1>{new}")
         has_name |= is_used and not colons
     if has_name or is_home and not word.is_of_code and defines(old, text):
-        text = changed(text, ending, plain_word(old, ending), new, old)
+        text = changed(text, ending, plain_word(old, ending), new, old, has_fields=False)
         if re.search(plain_word(new, ending), code_of(before, ending)):
             refused.append(f"{path}: {old} -> {new}, which stands there already")
-        if ending == ".antt" and re.search(rf"(?m)^\s+pub {old} :|[{{;] *{old} =", code_of(before, ending)):
+        is_field = rf"(?m)^\s+pub {old} :|[{{;] *{old} =|\bopen [^{{}}]* use \{{(?:[^{{}}]*, )?{old}[,}}]"
+        if ending == ".antt" and re.search(is_field, code_of(before, ending)):
             refused.append(f"{path}: {old} is a field, too")
     return text
 

@@ -241,6 +241,10 @@ class Words(unittest.TestCase):
             ("use Rattle.xa_one.specs.Did.{Did, told}\nf = told c.told", "use Rattle.xa_one.specs.Did.{Did, map_did}\nf = map_did c.told"),
             ("use Rattle.xa_one.specs.Did.{told as t}\nf = told t", "use Rattle.xa_one.specs.Did.{map_did as t}\nf = told t"),
             ("use Rattle.xa_one.specs.Did as did\nf = did.told told", "use Rattle.xa_one.specs.Did as did\nf = did.map_did told"),
+            (
+                "use Rattle.xa_one.specs.Did.{told}\n  open a use {b, told as c}\nf = told",
+                "use Rattle.xa_one.specs.Did.{map_did}\n  open a use {b, told as c}\nf = map_did",
+            ),
             ("use Rattle.xa_two.specs.Did.{told}\nf = told", "use Rattle.xa_two.specs.Did.{told}\nf = told"),
         ):
             self.assertEqual(self.changed("xa_two/proofs/Steps.antt", before, word), (after, []))
