@@ -16,6 +16,7 @@ pub mod Parameters
 pub mod Calls
 pub mod Declarations
 pub mod Transfers
+pub mod Conditions
 pub mod Flow
 pub mod Statements
 pub mod Ports

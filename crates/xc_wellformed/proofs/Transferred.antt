@@ -11,6 +11,7 @@ use Rattle.xc_tree.specs.Words.{pinseq_word, pinsneq_word, timerafter_word}
 use Rattle.xc_tree.specs.Types.Sites.{Site}
 use Rattle.xc_tree.specs.Types.Sites as site
 use Rattle.xc_kernel.specs.declared.kernel.PortUse.{PortUse}
+use Rattle.xc_kernel.specs.Conditions.{AsksForPins, AsksForTime}
 use Rattle.xc_kernel.specs.Plain as kernel
 use Rattle.xc_kernel.specs.Paths.{Path}
 use Rattle.xc_kernel.specs.Numbering.{Numbering}
@@ -23,7 +24,7 @@ use Rattle.xc_wellformed.specs.Standing.{HasPort, Stands, a_variable, whole_arra
 use Rattle.xc_tree.specs.Types.Entities.{drives, reads}
 use Rattle.xc_kernel.specs.declared.statement.KRes.{KRes}
 use Rattle.xc_kernel.specs.Expressions.{resource_of}
-use Rattle.xc_wellformed.specs.Transfers.{IsNothing, IsPort, can_drive, can_read, WaitsForOne, AsksForPins, AsksForTime, OutputGoes, InputComes}
+use Rattle.xc_wellformed.specs.Transfers.{IsNothing, IsPort, can_drive, can_read, WaitsForOne, OutputGoes, InputComes}
 use Rattle.xc_wellformed.proofs.Shaped.{Waits, WaitsRight}
 use Rattle.xc_wellformed.proofs.Numbers.{no}
 use Rattle.xc_wellformed.proofs.Walk.Arguments.{AllIn, split, IsFine, standing}

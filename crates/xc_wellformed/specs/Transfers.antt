@@ -1,11 +1,11 @@
 -- Outputs, inputs and transactions by what they go through: a port with its direction, a timer or a
 -- channel, and what they may wait for.
-use Rattle.std.specs.Prelude.{◌≡◌, ◌⊎◌, ℕ, ◌<◌, Bool, true, List, length, Option, Some, None, slice_get}
+use Rattle.std.specs.Prelude.{◌≡◌, ℕ, ◌<◌, Bool, true, List, length, Option, Some, None, slice_get}
 use Rattle.xc_tree.specs.Types.Entities.{drives, reads}
-use Rattle.xc_tree.specs.Words.{pinseq_word, pinsneq_word, timerafter_word}
 use Rattle.xc_kernel.specs.declared.kernel.PortUse.{PortUse}
 use Rattle.xc_kernel.specs.declared.statement.KRes.{KRes}
 use Rattle.xc_kernel.specs.declared.statement.KRes.TheVariants.{Port, Timer, Chan}
+use Rattle.xc_kernel.specs.Conditions.{AsksForPins, AsksForTime}
 use Rattle.xc_kernel.specs.Plain as kernel
 use Rattle.xc_wellformed.specs.Each.{AnyExpression, AnyPlace, AnyNumber, AnyOutput, AnyInput, EachRoot}
 use Rattle.xc_wellformed.specs.Numbers.{IsChannel}
@@ -30,15 +30,6 @@ can_read p = reads p.dir
 abbrev pub WaitsForOne : Option kernel.Expression → Option kernel.Condition → Type 0
 WaitsForOne None condition = Unit {0}
 WaitsForOne (Some time) condition = IsNothing condition
-
--- a condition of a port asks for its pins, and one of a timer for its time
-abbrev pub AsksForPins : Option kernel.Condition → Type 0
-AsksForPins None = Unit {0}
-AsksForPins (Some w) = (w.test ≡ pinseq_word) ⊎ (w.test ≡ pinsneq_word)
-
-abbrev pub AsksForTime : Option kernel.Condition → Type 0
-AsksForTime None = Unit {0}
-AsksForTime (Some w) = w.test ≡ timerafter_word
 
 -- by a list of ports, and so many channels and timers
 module _ (ps : List PortUse) (channels timers : ℕ) where

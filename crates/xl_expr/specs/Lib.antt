@@ -5,6 +5,7 @@ pub mod Works
 pub mod Operands
 pub mod Parts
 pub mod Stores
+pub mod Destinations
 pub mod Frames
 pub mod Leads
 pub mod ResourceParts

@@ -30,9 +30,13 @@ owner_in (Some watch) = watch.owner
 abbrev pub IsEnabledFor : (thread : ℕ) → Events → Res → Type 0
 IsEnabledFor t events res = owner_in (watch_of events res) ≡ Some t
 
--- one port alone
+-- one port alone, and one timer alone
+
 abbrev pub port_alone : (p : ℕ) → Res → Type 0
 port_alone p res = res ≡ ResPort p
+
+abbrev pub timer_alone : (n : ℕ) → Res → Type 0
+timer_alone n res = res ≡ ResTimer n
 
 module _ (mine : Res → Type 0) (t : ℕ) where
   -- The rely of thread t: its own resources are as they were, and enabled for it as before; and nothing more is enabled for it.

@@ -1,2 +1,6 @@
-pub mod PortSteps
+pub mod Timings
+pub mod Resources
+pub mod Stamps
 pub mod Outputs
+pub mod Inputs
+pub mod TimerInputs
