@@ -11,11 +11,12 @@ use Rattle.xs_instr.specs.OwnSteps.{HasRoom, IsApart, RunsAt, StandAt, Within}
 use Rattle.xs_instr.specs.Registers.{reg_set}
 use Rattle.xc_kernel.specs.Plain as kernel
 use Rattle.xl_expr.specs.declared.plan.Plan.{Plan}
+use Rattle.xl_expr.specs.Destinations.{WritesTo}
 use Rattle.xl_expr.specs.Measures.{nodes_at}
 use Rattle.xl_expr.specs.Stores.{StoreOutcome, index_in}
 use Rattle.xl_expr.proofs.Lists.{stand_front, stand_back}
 use Rattle.xl_chan.specs.Protocols.{Act, ActsAll, Behind, at_index, input_acts, sends, takes, takes_word}
-use Rattle.xl_chan.specs.Transfers.{AtProtocol, EndStands, EndsAt, StoresFrom, Takes, TakesTo, WritesTo}
+use Rattle.xl_chan.specs.Transfers.{AtProtocol, EndStands, EndsAt, StoresFrom, Takes, TakesTo}
 use Rattle.xl_chan.proofs.Transferring.{within_map}
 
 -- what follows the steps of a protocol, in other words

@@ -17,10 +17,11 @@ use Rattle.xc_kernel.specs.Eval.{Store, eval}
 use Rattle.xl_expr.specs.declared.plan.Plan.{Plan}
 use Rattle.xl_expr.specs.declared.plan.ResAt.{ResAt}
 use Rattle.xl_expr.specs.declared.plan.VarPlan.{VarPlan}
+use Rattle.xl_expr.specs.Destinations.{WritesTo}
 use Rattle.xl_expr.specs.Identifiers.{IsIdentifier}
-use Rattle.xl_expr.specs.Measures.{depth_at, nodes, nodes_at}
+use Rattle.xl_expr.specs.Measures.{nodes, nodes_at}
 use Rattle.xl_expr.specs.Plans.{end_in}
-use Rattle.xl_expr.specs.Stores.{StoreOutcome, Stores, index_in, is_working}
+use Rattle.xl_expr.specs.Stores.{StoreOutcome, index_in, is_working}
 use Rattle.xl_expr.specs.Works.{Errs, IsLaid, PlaceIsLaid}
 use Rattle.xl_chan.specs.Protocols.{Act, ActsAll, at_index, input_acts, output_acts}
 
@@ -106,11 +107,6 @@ StoresFrom vars home relied s t thread (Some place) pc index regs =
     (StoreOutcome vars home relied s t (at_index thread index regs) c.words place regs.r0 pc (index_in store place))
     (8 * nodes_at place - 1) c
 
--- its part of the code
-abbrev pub WritesTo : List (Option VarPlan) → Option kernel.Place → (pc : ℕ) → List Line → Type 0
-WritesTo vars None pc lines = lines ≡ []
-WritesTo vars (Some place) pc lines = Stores vars place R0 pc lines
-
 -- The lines of an input: those of its transfer, and then those that write the word, which stands in r0, where there is a place for it.
 pub record Receives
     (plan : Plan) (end : ℕ) (dest : Option kernel.Place) (plain : Bool) (pos : Pos) (pc : ℕ) (lines : List Line) : Type 0 where
@@ -131,13 +127,3 @@ pub record TakesTo
       (AtProtocol home relied s t e thread a.words pos
       (input_acts R0 plain) (StoresFrom plan.vars home relied s t thread dest (pc + length lines)))
       3 a
-
--- how many nodes an input's place has, and how deep it is
-
-abbrev pub dest_nodes : Option kernel.Place → ℕ
-dest_nodes None = 0
-dest_nodes (Some place) = nodes_at place
-
-abbrev pub dest_depth : Option kernel.Place → ℕ
-dest_depth None = 0
-dest_depth (Some place) = depth_at place

@@ -2,13 +2,14 @@ ghost use Rattle.std.specs.Prelude.{◌≡◌, ◌+◌, ◌*◌, ◌<◌, ◌≤
 ghost use Rattle.xc_kernel.specs.Kernels.{expression_of, place_of};
 ghost use Rattle.xs_instr.specs.Adds.{Adds};
 ghost use Rattle.xs_instr.specs.Extends.{Extends};
+ghost use Rattle.xl_expr.specs.Destinations.{dest_depth, dest_nodes};
 ghost use Rattle.xl_expr.specs.Measures.{depth, nodes};
 ghost use Rattle.xl_expr.specs.Targets.{AreAimed};
-ghost use Rattle.xl_chan.specs.Transfers.{Receives, SendsValue, TakesTo, WritesTo, dest_depth, dest_nodes};
+ghost use Rattle.xl_chan.specs.Transfers.{Receives, SendsValue, TakesTo};
 
 use crate::transfer::{emit_in, emit_out};
 use xc_kernel::{Kx, Place};
-use xl_expr::{Plan, emit_expr, emit_store};
+use xl_expr::{Plan, emit_destination, emit_expr};
 use xs_instr::{Emitter, Reg};
 use xw_words::{Memory, Pos};
 
@@ -69,23 +70,6 @@ pub fn emit_receive(
     ensures refused { OnErr result (Extends e.old e.new) }
 {
     emit_in(e, plan, end, Reg::R0, plain, pos)?;
-    emit_dest(e, plan, dest)?;
+    emit_destination(e, plan, dest)?;
     Ok(())
-}
-
-/// The code that writes r0 to a place, where there is one.
-fn emit_dest(e: &mut Emitter, plan: &Plan, dest: &Option<Place>) -> Result<(), Memory>
-    requires room { length e.old + 8 * dest_nodes (option_map place_of dest.now) < 2 ^ 32 }
-    requires shallow { dest_depth (option_map place_of dest.now) ≤ 400 }
-    ensures size { OnOk result
-        (length e.new ≤ length e.old + 8 * dest_nodes (option_map place_of dest.now)) }
-    ensures writes { OnOk result (Adds e.old e.new
-        (WritesTo plan.now.vars (option_map place_of dest.now) (length e.old))) }
-    ensures aimed { OnOk result (Adds e.old e.new (AreAimed (length e.old))) }
-    ensures refused { OnErr result (Extends e.old e.new) }
-{
-    match dest {
-        None => Ok(()),
-        Some(place) => emit_store(e, plan, place, Reg::R0),
-    }
 }

@@ -6,7 +6,7 @@ use Rattle.xs_instr.specs.declared.state.Events.{Events}
 use Rattle.xs_instr.specs.declared.state.Res.{Res}
 use Rattle.xs_instr.specs.declared.state.Res.TheVariants.{Port as ResPort, Timer as ResTimer, End as ResEnd}
 use Rattle.xs_instr.specs.Events.{vector_of, watch_of}
-use Rattle.xl_expr.specs.ResourceParts.{IsEnabledFor, OtherPartsStay, OwnPartsStay, Part, owner_in, part_of, port_alone}
+use Rattle.xl_expr.specs.ResourceParts.{IsEnabledFor, OtherPartsStay, OwnPartsStay, Part, owner_in, part_of, port_alone, timer_alone}
 
 -- where ports, timers and events are the same, each resource is
 pub part_same : (a b : CoreState) → b.ports ≡ a.ports → b.timers ≡ a.timers → b.events ≡ a.events → (res : Res) → part_of b res ≡ part_of a res
@@ -74,6 +74,10 @@ others_keep mine theirs t u a b ne apart h = record {
 pub port_same : (a b : CoreState) (p : ℕ) → part_of b (ResPort p) ≡ part_of a (ResPort p) → slice_get b.ports p ≡ slice_get a.ports p
 port_same a b p same = ap (λ (x : Part). x.port) same
 
+-- and so is a timer
+pub timer_same : (a b : CoreState) (n : ℕ) → part_of b (ResTimer n) ≡ part_of a (ResTimer n) → slice_get b.timers n ≡ slice_get a.timers n
+timer_same a b n same = ap (λ (x : Part). x.timer) same
+
 -- a step that sets one port alone
 pub others_of_port : (t p : ℕ) (a b : CoreState) → ((q : ℕ) → (q ≡ p → ⊥) → slice_get b.ports q ≡ slice_get a.ports q) → b.timers ≡ a.timers → b.events ≡ a.events → OtherPartsStay (port_alone p) t a b
 others_of_port t p a b others timers events = record {
@@ -90,3 +94,20 @@ others_of_port t p a b others timers events = record {
         ap (λ l. record { port = None; timer = slice_get l q; vector = vector_of b.events (ResTimer q) }) timers
         ∙ ap (λ e. record { port = None; timer = slice_get a.timers q; vector = vector_of e (ResTimer q) }) events
     by (ResEnd q) n = ap (λ e. record { port = None; timer = None; vector = vector_of e (ResEnd q) }) events
+
+-- a step that sets one timer alone
+pub others_of_timer : (t n : ℕ) (a b : CoreState) → ((m : ℕ) → (m ≡ n → ⊥) → slice_get b.timers m ≡ slice_get a.timers m) → b.ports ≡ a.ports → b.events ≡ a.events → OtherPartsStay (timer_alone n) t a b
+others_of_timer t n a b others ports events = record {
+  parts = by;
+  enabled = λ u res ne m h. enabled_same u a.events b.events res events h;
+  strangers = λ u res ne h. enabled_same u b.events a.events res (sym events) h;
+}
+  where
+    by : (res : Res) → (timer_alone n res → ⊥) → part_of b res ≡ part_of a res
+    by (ResTimer m) ne =
+        ap (λ o. record { port = None; timer = o; vector = vector_of b.events (ResTimer m) }) (others m (λ e. ne (ap ResTimer e)))
+        ∙ ap (λ e. record { port = None; timer = slice_get a.timers m; vector = vector_of e (ResTimer m) }) events
+    by (ResPort q) ne =
+        ap (λ l. record { port = slice_get l q; timer = None; vector = vector_of b.events (ResPort q) }) ports
+        ∙ ap (λ e. record { port = slice_get a.ports q; timer = None; vector = vector_of e (ResPort q) }) events
+    by (ResEnd m) ne = ap (λ e. record { port = None; timer = None; vector = vector_of e (ResEnd m) }) events

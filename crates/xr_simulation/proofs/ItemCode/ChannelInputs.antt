@@ -14,7 +14,8 @@ use Rattle.xc_kernel.specs.Plain as kernel
 use Rattle.xc_meaning.specs.States.Channels.{Side}
 use Rattle.xc_meaning.specs.States.Items.{Item, does, storing}
 use Rattle.xl_chan.specs.Protocols.{input_acts}
-use Rattle.xl_chan.specs.Transfers.{AtProtocol, EndsAt, Receives, WritesTo}
+use Rattle.xl_chan.specs.Transfers.{AtProtocol, EndsAt, Receives}
+use Rattle.xl_expr.specs.Destinations.{WritesTo}
 use Rattle.xl_expr.proofs.Lists.{stand_back, stand_front}
 use Rattle.xl_expr.proofs.Runs.{r0_alone}
 use Rattle.xl_ends.specs.Ends.{end_at}

@@ -1,10 +1,10 @@
 use Rattle.std.proofs.Common.{◌++◌, ◌∙◌, ap, append_assoc, arith, length, length-append, refl, subst}
 use Rattle.std.specs.Prelude.{option_map}
 use Rattle.xc_kernel.specs.Kernels.{place_of}
+use Rattle.xl_expr.specs.Destinations.{WritesTo}
 use Rattle.xl_expr.specs.Targets.{AreAimed}
 use Rattle.xl_expr.proofs.Emitted.{behind_extends, on_err}
 use Rattle.xl_expr.proofs.GoodCode.{aimed_append}
-use Rattle.xl_chan.specs.Transfers.{WritesTo}
 use Rattle.xl_chan.proofs.Receiving.{joined_takes}
 use Rattle.xl_chan.proofs.statement.emit_receive.Goals as goal
 
@@ -13,7 +13,7 @@ returns-clause-takes c =
     let old = c.args.e.now in
     let dest = option_map place_of c.args.dest.now in
     let transfer = c.in_ok-emit_in.ensures.takes in
-    let write = c.in_ok-emit_dest.ensures.writes in
+    let write = c.in_ok-emit_destination.ensures.writes in
     let behind = ap length transfer.is ∙ length-append old transfer.lines in
     record {
       lines = transfer.lines ++ write.lines;
@@ -27,7 +27,7 @@ returns-clause-receives c =
     let old = c.args.e.now in
     let dest = option_map place_of c.args.dest.now in
     let transfer = c.in_ok-emit_in.ensures.takes in
-    let write = c.in_ok-emit_dest.ensures.writes in
+    let write = c.in_ok-emit_destination.ensures.writes in
     let behind = ap length transfer.is ∙ length-append old transfer.lines in
     record {
       lines = transfer.lines ++ write.lines;
@@ -45,7 +45,7 @@ pub returns-clause-aimed : goal.returns-clause-aimed
 returns-clause-aimed c =
     let old = c.args.e.now in
     let transfer = c.in_ok-emit_in.ensures.aimed in
-    let write = c.in_ok-emit_dest.ensures.aimed in
+    let write = c.in_ok-emit_destination.ensures.aimed in
     let behind = ap length transfer.is ∙ length-append old transfer.lines in
     record {
       lines = transfer.lines ++ write.lines;
@@ -58,8 +58,8 @@ emit_in-requires c =
     let room = c.requires.room in
     omega arith
 
-pub emit_dest-requires-clause-room : goal.emit_dest-requires-clause-room
-emit_dest-requires-clause-room c =
+pub emit_destination-requires-clause-room : goal.emit_destination-requires-clause-room
+emit_destination-requires-clause-room c =
     let room = c.requires.room in
     let transfer = c.in_ok-emit_in.ensures.size in
     omega arith
@@ -67,9 +67,9 @@ emit_dest-requires-clause-room c =
 pub returns-clause-size : goal.returns-clause-size
 returns-clause-size c =
     let transfer = c.in_ok-emit_in.ensures.size in
-    let write = c.in_ok-emit_dest.ensures.size in
+    let write = c.in_ok-emit_destination.ensures.size in
     omega arith
 
-pub returns-in_err-emit_dest-clause-refused : goal.returns-in_err-emit_dest-clause-refused
-returns-in_err-emit_dest-clause-refused c =
-    on_err _ _ (behind_extends _ _ _ _ c.in_ok-emit_in.ensures.takes.is c.in_err-emit_dest.ensures.refused)
+pub returns-in_err-emit_destination-clause-refused : goal.returns-in_err-emit_destination-clause-refused
+returns-in_err-emit_destination-clause-refused c =
+    on_err _ _ (behind_extends _ _ _ _ c.in_ok-emit_in.ensures.takes.is c.in_err-emit_destination.ensures.refused)

@@ -1,5 +1,5 @@
 use Rattle.xl_expr.proofs.GoodCode.{nothing_aimed}
-use Rattle.xl_chan.proofs.statement.emit_dest.Goals as goal
+use Rattle.xl_expr.proofs.destination.emit_destination.Goals as goal
 
 pub returns-in-None-clause-aimed : goal.returns-in-None-clause-aimed
 returns-in-None-clause-aimed c = nothing_aimed c.args.e.now
