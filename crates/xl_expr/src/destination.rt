@@ -1,3 +1,4 @@
+//! The store of the word of a transfer.
 ghost use Rattle.std.specs.Prelude.{◌+◌, ◌*◌, ◌<◌, ◌≤◌, ◌^◌, length, option_map, OnOk, OnErr};
 ghost use Rattle.xc_kernel.specs.Kernels.{place_of};
 ghost use Rattle.xs_instr.specs.Adds.{Adds};

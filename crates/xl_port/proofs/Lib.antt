@@ -1,3 +1,9 @@
-pub mod PortTurns
-pub mod Transferring
-pub mod Outputting
+pub mod Joined
+pub mod Since
+pub mod PortRows
+pub mod TimerRows
+pub mod Waiting
+pub mod Driving
+pub mod Sampling
+pub mod ReadingClock
+pub mod Stamping

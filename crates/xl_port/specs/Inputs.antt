@@ -33,7 +33,7 @@ use Rattle.xl_port.specs.Resources.{PortStands}
 use Rattle.xl_port.specs.Stamps.{StampsTo}
 use Rattle.xl_port.specs.Timings.{TimeIsLaid, port_set, time_depth, time_nodes, timing_expression}
 
--- how many nodes the time or condition, the target and the stamp have, and how deep they are
+-- how many nodes the time or condition has, and how many with those of the target and the stamp
 
 abbrev pub waiting_nodes : kernel.Input → ℕ
 waiting_nodes i = time_nodes (timing_expression i.time i.condition)
@@ -41,8 +41,13 @@ waiting_nodes i = time_nodes (timing_expression i.time i.condition)
 abbrev pub input_nodes : kernel.Input → ℕ
 input_nodes i = waiting_nodes i + dest_nodes i.target + dest_nodes i.stamp
 
+-- how deep they are
+
+abbrev pub waiting_depth : kernel.Input → ℕ
+waiting_depth i = time_depth (timing_expression i.time i.condition)
+
 abbrev pub input_depth : kernel.Input → ℕ
-input_depth i = max (max (time_depth (timing_expression i.time i.condition)) (dest_depth i.target)) (dest_depth i.stamp)
+input_depth i = max (max (waiting_depth i) (dest_depth i.target)) (dest_depth i.stamp)
 
 -- the pins that a port has at this moment
 abbrev pub pins_at : Home → CoreState → Port → ℕ

@@ -1,4 +1,5 @@
 pub mod Timings
+pub mod Waits
 pub mod Resources
 pub mod Stamps
 pub mod Outputs

@@ -1,5 +1,5 @@
 -- What the code of an output to a port does.
-use Rattle.std.specs.Prelude.{◌≡◌, ℕ, ◌+◌, ◌*◌, ◌%◌, ◌^◌, ◌≤◌, Bool, true, false, List, ◌++◌, length, max, Option, Some, None, option_map, slice_get, slice_set}
+use Rattle.std.specs.Prelude.{◌≡◌, ℕ, ◌+◌, ◌*◌, ◌%◌, ◌^◌, ◌≤◌, Bool, true, false, List, [], ◌++◌, length, max, Option, Some, None, option_map, slice_get, slice_set}
 use Rattle.xw_words.specs.declared.pos.Pos.{Pos}
 use Rattle.xs_instr.specs.declared.image.Home.{Home}
 use Rattle.xs_instr.specs.declared.instr.Cond.TheVariants.{None as NoCond}
@@ -32,13 +32,21 @@ use Rattle.xl_port.specs.Resources.{PortStands}
 use Rattle.xl_port.specs.Stamps.{StampsTo}
 use Rattle.xl_port.specs.Timings.{TimeIsLaid, time_depth, time_nodes}
 
--- how many nodes time, value and stamp have, and how deep they are
+-- how many nodes time and value have, and how many with the stamp's
+
+abbrev pub driving_nodes : kernel.Output → ℕ
+driving_nodes o = time_nodes o.time + nodes o.value
 
 abbrev pub output_nodes : kernel.Output → ℕ
-output_nodes o = time_nodes o.time + nodes o.value + dest_nodes o.stamp
+output_nodes o = driving_nodes o + dest_nodes o.stamp
+
+-- how deep they are
+
+abbrev pub driving_depth : kernel.Output → ℕ
+driving_depth o = max (time_depth o.time) (depth o.value)
 
 abbrev pub output_depth : kernel.Output → ℕ
-output_depth o = max (max (time_depth o.time) (depth o.value)) (dest_depth o.stamp)
+output_depth o = max (driving_depth o) (dest_depth o.stamp)
 
 -- the time that a port gets of a word
 abbrev pub time_of : Option ℕ → Option ℕ
@@ -111,7 +119,7 @@ pub record DrivesPort (plan : Plan) (o : kernel.Output) (pc : ℕ) (lines : List
       WithinParts home relied (IsApart s) (port_alone p) t
       (OutputOutcome home relied s t thread a.words p port o.pos (pc + length lines)
       (option_map (eval store) o.time) (eval store o.value))
-      (8 * (time_nodes o.time + nodes o.value) + 4) a
+      (8 * driving_nodes o + 4) a
 
 -- The lines of an output: those of its transfer, and then those that write the port's counter, where there is a place for it.
 pub record Outputs (plan : Plan) (o : kernel.Output) (pc : ℕ) (lines : List Line) : Type 0 where

@@ -1,5 +1,5 @@
 -- What the code does that stores the counter of a port's last transfer.
-use Rattle.std.specs.Prelude.{◌≡◌, ℕ, ◌+◌, ◌*◌, List, [], length, Option, Some, None}
+use Rattle.std.specs.Prelude.{◌≡◌, ℕ, ◌+◌, ◌*◌, Bool, List, [], length, Option, Some, None}
 use Rattle.xs_instr.specs.declared.image.Home.{Home}
 use Rattle.xs_instr.specs.declared.state.CoreState.{CoreState}
 use Rattle.xs_instr.specs.declared.state.Port.{Port}
@@ -18,9 +18,10 @@ use Rattle.xl_expr.specs.Stores.{StoreOutcome, index_in}
 use Rattle.xl_expr.specs.Works.{PlaceIsLaid}
 use Rattle.xl_port.specs.Resources.{PortStands}
 
--- The lines write the stamp of a port to a place: wherever they stand from index pc on, in each state of the core in which the plan's layout
--- holds, and whatever other threads do in between that leaves what this one relies on, the thread stands after at most 8 own steps for each
--- node and two more where its next step writes the stamp that the port has at the beginning, or traps with the error of the place's index.
+-- The lines write the stamp of a port to a place: wherever they stand from index pc on, in each state of the core in which the plan's
+-- layout holds, and whatever other threads do in between that leaves what this one relies on, the thread stands after at most 8 own steps
+-- for each node and two more where its next step writes the stamp that the port has at the beginning, or traps with the error of the
+-- place's index.
 pub record Stamps (plan : Plan) (resource : KRes) (place : kernel.Place) (pc : ℕ) (lines : List Line) : Type 0 where
   pub by : (home : Home) (relied : ℕ → Bool) (s t p : ℕ) (port : Port) (thread : Thread) (store : Store) (a : CoreState) →
       StandAt home.parts.code pc lines → RunsAt t pc thread a → HasRoom relied s thread.regs a.words →

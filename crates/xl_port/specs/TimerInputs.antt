@@ -68,8 +68,8 @@ module _
   ClockOutcome (fails kind at_pos') b = (c : CoreState) → KeptParts relied (timer_alone n) t b c → Errs home t kind at_pos' c
 
 -- The lines read the clock to r0: wherever they stand from index pc on, in each state of the core in which the plan's layout holds, and
--- whatever other threads do in between that leaves what this one relies on, the thread stands after at most 8 own steps for each node of the
--- condition and four more where its next step reads the clock as soon as it may, or traps with the condition's error.
+-- whatever other threads do in between that leaves what this one relies on, the thread stands after at most 8 own steps for each node of
+-- the condition and four more where its next step reads the clock as soon as it may, or traps with the condition's error.
 pub record ReadsTimer (plan : Plan) (i : kernel.Input) (pc : ℕ) (lines : List Line) : Type 0 where
   pub by : (home : Home) (relied : ℕ → Bool) (s t n : ℕ) (timer : Timer) (thread : Thread) (store : Store) (a : CoreState) →
       StandAt home.parts.code pc lines → RunsAt t pc thread a → HasRoom relied s thread.regs a.words →
@@ -80,7 +80,8 @@ pub record ReadsTimer (plan : Plan) (i : kernel.Input) (pc : ℕ) (lines : List 
       (ClockOutcome home relied s t thread a.words n timer i.pos (pc + length lines) (timing store i.time i.condition))
       (8 * waiting_nodes i + 4) a
 
--- The lines of a timer's input: those of its transfer, and then those that write the clock, which stands in r0, where there is a place for it.
+-- The lines of a timer's input: those of its transfer, and then those that write the clock, which stands in r0, where there is a place
+-- for it.
 pub record TimerInputs (plan : Plan) (i : kernel.Input) (pc : ℕ) (lines : List Line) : Type 0 where
   pub transfer : List Line
   pub write : List Line

@@ -1,9 +1,16 @@
-//! Lowering of outputs to ports: the code that sets the port up and puts the value out, at once or at a time.
+//! Lowering of transfers over ports and timers: the code that sets one up, at once, at a time or on a condition, puts a word out or takes
+//! one in, and stores it and the port's counter.
 //!
-//! Proved is that a thread which executes it comes to where its next step puts the value out, and pauses there until the time is come;
-//! or it traps with the error of the time, else of the value. Inputs and stamps aren't built yet.
+//! Proved is that a thread which executes it comes to where its next step is the transfer, and pauses there until it may pass; and behind it
+//! to the stores of the word and of the counter; or it traps with the error that comes first.
 #![tactic(auto)]
 
+mod input;
 mod output;
+mod setting;
+mod stamp;
+mod timer_input;
 
+pub use input::emit_port_in;
 pub use output::emit_port_out;
+pub use timer_input::emit_timer_in;
