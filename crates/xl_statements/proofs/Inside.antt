@@ -147,13 +147,13 @@ module _ (plan : Plan) where
   by_end_good around P (Some end) last size pc cells h ends = piece_good around (P end) last size pc cells h ends
 
   output_good : (sides : Sides) (o : kernel.Output) (around : List ℕ) (last : Pos) (size pc : ℕ) (cells : List Cell) (resource : KRes) → OutputEmits plan sides o resource last pc cells → pc + length cells < size → AreGoodCells around size pc cells
-  output_good sides o around last size pc cells (Port p) h ends = piece_good around _ last size pc cells h.1 ends
+  output_good sides o around last size pc cells (Port p) h ends = piece_good around _ last size pc cells h ends
   output_good sides o around last size pc cells (Timer t) h ends = absurd h
   output_good sides o around last size pc cells (Chan c) h ends = by_end_good around _ (end_at plan.channels sides c) last size pc cells h ends
 
   input_good : (sides : Sides) (i : kernel.Input) (around : List ℕ) (last : Pos) (size pc : ℕ) (cells : List Cell) (resource : KRes) → InputEmits plan sides i resource last pc cells → pc + length cells < size → AreGoodCells around size pc cells
-  input_good sides i around last size pc cells (Port p) h ends = absurd h
-  input_good sides i around last size pc cells (Timer t) h ends = absurd h
+  input_good sides i around last size pc cells (Port p) h ends = piece_good around _ last size pc cells h ends
+  input_good sides i around last size pc cells (Timer t) h ends = piece_good around _ last size pc cells h ends
   input_good sides i around last size pc cells (Chan c) h ends = by_end_good around _ (end_at plan.channels sides c) last size pc cells h ends
 
   mutual

@@ -184,13 +184,13 @@ module _ (code : Code) (plan : Plan) where
   by_end_stands P (Some end) exits last pc cells h at_pc = piece_stands (P end) last exits pc cells h at_pc
 
   output_stands : (sides : Sides) (o : kernel.Output) (exits : List Exit) (last : Pos) (pc : ℕ) (cells : List Cell) (resource : KRes) → OutputEmits plan sides o resource last pc cells → CellsAt code exits pc cells → OutputAt code plan sides o resource pc (pc + length cells)
-  output_stands sides o exits last pc cells (Port p) h at_pc = (h.0, piece_stands _ last exits pc cells h.1 at_pc)
+  output_stands sides o exits last pc cells (Port p) h at_pc = piece_stands _ last exits pc cells h at_pc
   output_stands sides o exits last pc cells (Timer t) h at_pc = absurd h
   output_stands sides o exits last pc cells (Chan c) h at_pc = by_end_stands _ (end_at plan.channels sides c) exits last pc cells h at_pc
 
   input_stands : (sides : Sides) (i : kernel.Input) (exits : List Exit) (last : Pos) (pc : ℕ) (cells : List Cell) (resource : KRes) → InputEmits plan sides i resource last pc cells → CellsAt code exits pc cells → InputAt code plan sides i resource pc (pc + length cells)
-  input_stands sides i exits last pc cells (Port p) h at_pc = absurd h
-  input_stands sides i exits last pc cells (Timer t) h at_pc = absurd h
+  input_stands sides i exits last pc cells (Port p) h at_pc = piece_stands _ last exits pc cells h at_pc
+  input_stands sides i exits last pc cells (Timer t) h at_pc = piece_stands _ last exits pc cells h at_pc
   input_stands sides i exits last pc cells (Chan c) h at_pc = by_end_stands _ (end_at plan.channels sides c) exits last pc cells h at_pc
 
   mutual

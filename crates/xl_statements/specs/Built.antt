@@ -1,5 +1,5 @@
 -- The statements whose code is built so far, and how much code they have.
-use Rattle.std.specs.Prelude.{◌≡◌, ℕ, ◌+◌, ◌*◌, ◌≤◌, List, map, Option, None}
+use Rattle.std.specs.Prelude.{ℕ, ◌+◌, ◌*◌, ◌≤◌, List, map, Option}
 use Rattle.xc_kernel.specs.declared.statement.KRes.{KRes}
 use Rattle.xc_kernel.specs.declared.statement.KRes.TheVariants.{Port, Timer, Chan}
 use Rattle.xc_kernel.specs.declared.statement.Kst.{Kst}
@@ -7,11 +7,11 @@ use Rattle.xc_kernel.specs.declared.statement.KBranch.{KBranch}
 use Rattle.xc_kernel.specs.Kernels.{branch_of, statement_of}
 use Rattle.xc_kernel.specs.Plain as kernel
 use Rattle.xc_meaning.specs.Counts.KernelCounts.{branch_count}
-use Rattle.xl_chan.specs.Transfers.{dest_depth, dest_nodes}
 use Rattle.xl_expr.specs.declared.plan.VarPlan.{VarPlan}
 use Rattle.xl_expr.specs.Measures.{nodes, nodes_at, depth, depth_at}
 use Rattle.xl_expr.specs.Plans.{var_in}
 use Rattle.xl_flow.specs.Zeros.{room_of}
+use Rattle.xl_port.specs.Inputs.{input_depth, input_nodes}
 use Rattle.xl_port.specs.Outputs.{output_depth, output_nodes}
 
 -- the statements that a list stands for
@@ -22,25 +22,19 @@ statements_of ss = kernel.statements (map statement_of ss)
 abbrev pub branches_of : List KBranch → kernel.Branches
 branches_of bs = kernel.branches (map branch_of bs)
 
--- an output goes to a port, without a stamp, or to a channel
-abbrev pub IsSent : KRes → (stamp : Option kernel.Place) → Type 0
-IsSent (Port p) stamp = stamp ≡ None
-IsSent (Timer t) stamp = ⊥
-IsSent (Chan c) stamp = Unit {0}
+-- an output goes to a port or a channel
+abbrev pub IsSent : KRes → Type 0
+IsSent (Port p) = Unit {0}
+IsSent (Timer t) = ⊥
+IsSent (Chan c) = Unit {0}
 
--- an input comes from a channel
-abbrev pub IsReceived : KRes → Type 0
-IsReceived (Port p) = ⊥
-IsReceived (Timer t) = ⊥
-IsReceived (Chan c) = Unit {0}
-
--- no `select`, no transaction, each output goes to a port and has no stamp, or to a channel, and each input comes from a channel
+-- no `select`, no transaction, and each output goes to a port or a channel
 abbrev mutual
   pub IsBuilt : kernel.Statement → Type 0
   IsBuilt (kernel.set_zero v) = Unit {0}
   IsBuilt (kernel.set place x) = Unit {0}
-  IsBuilt (kernel.output o) = IsSent o.resource o.stamp
-  IsBuilt (kernel.input i) = IsReceived i.resource
+  IsBuilt (kernel.output o) = IsSent o.resource
+  IsBuilt (kernel.input i) = Unit {0}
   IsBuilt (kernel.if_then x a b) = AreBuilt a × AreBuilt b
   IsBuilt (kernel.loop x a b) = AreBuilt a × AreBuilt b
   IsBuilt (kernel.block n a) = AreBuilt a
@@ -66,7 +60,7 @@ abbrev mutual
   pub IsShallow : kernel.Statement → Type 0
   IsShallow (kernel.set place x) = (depth_at place ≤ most_levels) × (depth x ≤ most_levels)
   IsShallow (kernel.output o) = output_depth o ≤ most_levels
-  IsShallow (kernel.input i) = dest_depth i.target ≤ most_levels
+  IsShallow (kernel.input i) = input_depth i ≤ most_levels
   IsShallow (kernel.if_then x a b) = (depth x ≤ most_levels) × AreShallow a × AreShallow b
   IsShallow (kernel.loop x a b) = (depth x ≤ most_levels) × AreShallow a × AreShallow b
   IsShallow (kernel.block n a) = AreShallow a
@@ -109,8 +103,8 @@ module _ (vars : List (Option VarPlan)) where
     pub most : kernel.Statement → ℕ
     most (kernel.set_zero v) = room_of (var_in vars v)
     most (kernel.set place x) = 8 * (nodes x + nodes_at place)
-    most (kernel.output o) = 8 * output_nodes o + 6
-    most (kernel.input i) = 8 * dest_nodes i.target + 6
+    most (kernel.output o) = 8 * output_nodes o + 8
+    most (kernel.input i) = 8 * input_nodes i + 8
     most (kernel.if_then x a b) = 8 * nodes x + most_of_all a + most_of_all b + 2
     most (kernel.loop x a b) = 8 * nodes x + most_of_all a + most_of_all b + 2
     most (kernel.block n a) = most_of_all a

@@ -17,7 +17,9 @@ use Rattle.xl_flow.specs.Flow.{Sets, Tests}
 use Rattle.xl_flow.specs.Zeros.{Zeroes}
 use Rattle.xl_par.specs.Closing.{Closes as ClosesPar, EndsSlave}
 use Rattle.xl_par.specs.Opening.{AreAimedWith, Opens, filled}
+use Rattle.xl_port.specs.Inputs.{Inputs}
 use Rattle.xl_port.specs.Outputs.{Outputs}
+use Rattle.xl_port.specs.TimerInputs.{TimerInputs}
 use Rattle.xl_ends.specs.Ends.{Sides, codes_in, end_at}
 use Rattle.xl_statements.specs.declared.walk.Leaving.{Leaving}
 use Rattle.xl_statements.specs.Cells.{Cell, known, leaving, behind, closed, leaves, line_of}
@@ -156,13 +158,13 @@ ByEnd P (Some end) last pc cells = AreLines (P end) last pc cells
 module _ (plan : Plan) where
   -- an output, and an input, by its resource
   abbrev pub OutputEmits : Sides → kernel.Output → KRes → Coded
-  OutputEmits sides o (Port p) last pc cells = (o.stamp ≡ None) × AreLines (Outputs plan o) last pc cells
+  OutputEmits sides o (Port p) last pc cells = AreLines (Outputs plan o) last pc cells
   OutputEmits sides o (Timer t) last pc cells = ⊥
   OutputEmits sides o (Chan c) last pc cells = ByEnd (λ end. SendsValue plan end o.value true o.pos) (end_at plan.channels sides c) last pc cells
 
   abbrev pub InputEmits : Sides → kernel.Input → KRes → Coded
-  InputEmits sides i (Port p) last pc cells = ⊥
-  InputEmits sides i (Timer t) last pc cells = ⊥
+  InputEmits sides i (Port p) last pc cells = AreLines (Inputs plan i) last pc cells
+  InputEmits sides i (Timer t) last pc cells = AreLines (TimerInputs plan i) last pc cells
   InputEmits sides i (Chan c) last pc cells = ByEnd (λ end. Receives plan end i.target true i.pos) (end_at plan.channels sides c) last pc cells
 
   -- the code of a statement that stands in these sides of channels

@@ -18,7 +18,9 @@ use Rattle.xl_flow.specs.Zeros.{Zeroes}
 use Rattle.xl_par.specs.Closing.{Closes, EndsSlave}
 use Rattle.xl_par.specs.Opening.{Opens, filled}
 use Rattle.xl_par.specs.Roots.{EndsRoot}
+use Rattle.xl_port.specs.Inputs.{Inputs}
 use Rattle.xl_port.specs.Outputs.{Outputs}
+use Rattle.xl_port.specs.TimerInputs.{TimerInputs}
 use Rattle.xl_ends.specs.Ends.{Sides, codes_in, end_at}
 
 -- an open block, and the index where it ends
@@ -113,13 +115,13 @@ module _ (code : Code) where
 
     -- an output, and an input, by its resource
     abbrev pub OutputAt : Sides → kernel.Output → KRes → (pc pc' : ℕ) → Type 0
-    OutputAt sides o (Port p) pc pc' = (o.stamp ≡ None) × LinesAt (Outputs plan o) pc pc'
+    OutputAt sides o (Port p) pc pc' = LinesAt (Outputs plan o) pc pc'
     OutputAt sides o (Timer t) pc pc' = ⊥
     OutputAt sides o (Chan c) pc pc' = ByEndAt (λ end. SendsValue plan end o.value true o.pos) (end_at plan.channels sides c) pc pc'
 
     abbrev pub InputAt : Sides → kernel.Input → KRes → (pc pc' : ℕ) → Type 0
-    InputAt sides i (Port p) pc pc' = ⊥
-    InputAt sides i (Timer t) pc pc' = ⊥
+    InputAt sides i (Port p) pc pc' = LinesAt (Inputs plan i) pc pc'
+    InputAt sides i (Timer t) pc pc' = LinesAt (TimerInputs plan i) pc pc'
     InputAt sides i (Chan c) pc pc' = ByEndAt (λ end. Receives plan end i.target true i.pos) (end_at plan.channels sides c) pc pc'
 
     abbrev mutual

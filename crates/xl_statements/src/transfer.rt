@@ -12,7 +12,7 @@ use xc_kernel::{KHead, KOut, KRes};
 use xl_chan::{emit_receive, emit_send};
 use xl_ends::{Side, end_at};
 use xl_expr::Plan;
-use xl_port::emit_port_out;
+use xl_port::{emit_port_in, emit_port_out, emit_timer_in};
 use xs_instr::Emitter;
 use xw_words::Memory;
 
@@ -44,14 +44,13 @@ pub(crate) fn emit_output(
     }
 }
 
-/// The code of an input over a channel, at the end of the side in which it stands.
+/// The code of an input: from a port, from a timer, or over a channel at the end of the side in which it stands.
 pub(crate) fn emit_input(
     e: &mut Emitter,
     plan: &Plan,
     sides: &[Option<Side>],
     input: &KHead,
 ) -> Result<(), Memory>
-    requires built { IsBuilt (kernel.input (input_of input.now)) }
     requires shallow { IsShallow (kernel.input (input_of input.now)) }
     requires room { length e.old + most plan.now.vars (kernel.input (input_of input.now)) < 2 ^ 32 }
     ensures code { OnOk result (Emitted
@@ -62,8 +61,8 @@ pub(crate) fn emit_input(
     ensures refused { OnErr result (Extends e.old e.new) }
 {
     match input.res {
-        KRes::Port(_) => unreachable!(),
-        KRes::Timer(_) => unreachable!(),
+        KRes::Port(_) => emit_port_in(e, plan, input),
+        KRes::Timer(_) => emit_timer_in(e, plan, input),
         KRes::Chan(channel) => match end_at(plan.channels.as_slice(), sides, channel) {
             None => Ok(()),
             Some(end) => emit_receive(e, plan, end, &input.dest, true, input.pos),

@@ -607,9 +607,6 @@ walk::emit_one-emit_output-requires-clause-shallow t c = subst IsShallow (ap sta
 pub walk::emit_one-emit_output-requires-clause-room : goal.walk::emit_one-emit_output-requires-clause-room
 walk::emit_one-emit_output-requires-clause-room t c = subst (λ s. length c.args.e.now + most c.args.plan.now.vars s < 2 ^ 32) (ap statement_of c.in-Out.is ∙ statement-Out c.in-Out.output) c.requires.room
 
-pub walk::emit_one-emit_input-requires-clause-built : goal.walk::emit_one-emit_input-requires-clause-built
-walk::emit_one-emit_input-requires-clause-built t c = subst IsBuilt (ap statement_of c.in-In.is ∙ statement-In c.in-In.input) c.requires.built
-
 pub walk::emit_one-emit_input-requires-clause-shallow : goal.walk::emit_one-emit_input-requires-clause-shallow
 walk::emit_one-emit_input-requires-clause-shallow t c = subst IsShallow (ap statement_of c.in-In.is ∙ statement-In c.in-In.input) c.requires.shallow
 

@@ -1,9 +1,8 @@
-use Rattle.std.proofs.Common.{List, sym, ap, subst, ◌∙◌}
+use Rattle.std.proofs.Common.{List, sym, ap, ◌∙◌}
 use Rattle.xc_kernel.specs.Kernels.{output_of}
 use Rattle.xl_expr.specs.declared.plan.EndPlaces.{EndPlaces}
 use Rattle.xl_ends.specs.Ends.{end_at}
 use Rattle.xl_ends.specs.Sides.{sides_of}
-use Rattle.xl_statements.specs.Built.{IsSent}
 use Rattle.xl_statements.proofs.Transferred.{put_out, sent}
 use Rattle.xl_statements.proofs.transfer.emit_output.Goals as goal
 
@@ -11,7 +10,7 @@ pub returns-in-Port-clause-code : goal.returns-in-Port-clause-code
 returns-in-Port-clause-code c =
     let o = output_of c.args.output.now in
     put_out c.emit_port_out.result c.args.plan.now (sides_of c.args.sides.now) c.args.e.now c.emit_port_out.new.e o c.in-Port.field-0 c.in-Port.is
-    (subst (λ resource. IsSent resource o.stamp) c.in-Port.is c.requires.built) c.emit_port_out.ensures.outputs c.emit_port_out.ensures.aimed
+    c.emit_port_out.ensures.outputs c.emit_port_out.ensures.aimed
 
 pub returns-in-Some-clause-code : goal.returns-in-Some-clause-code
 returns-in-Some-clause-code c =
