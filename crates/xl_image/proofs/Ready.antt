@@ -9,7 +9,7 @@ use Rattle.xc_disjoint.specs.Checked.{IsChecked}
 use Rattle.xc_disjoint.specs.Cores.{if_so}
 use Rattle.xc_disjoint.specs.Needs.{threads_of_root}
 use Rattle.xc_disjoint.specs.Threads as threads
-use Rattle.xc_wellformed.specs.Each.{AnyNumber, AnyOutput, AnyInput, EachMaybe, EachPlace, EachStatement, EachOf, EachBranch, EachRoot}
+use Rattle.xc_wellformed.specs.Each.{AnyNumber, AnyOutput, AnyInput, EachCondition, EachMaybe, EachPlace, EachStatement, EachOf, EachBranch, EachRoot}
 use Rattle.xc_wellformed.specs.Levels.{IsLow, IsLowPlace, levels, levels_of_all}
 use Rattle.xc_wellformed.specs.Exits.{LeavesIn, AllLeaveIn, BranchesLeaveIn, EachRootLeaves}
 use Rattle.xc_wellformed.specs.Parts as parts
@@ -21,8 +21,10 @@ use Rattle.xl_expr.specs.declared.plan.VarPlan.{VarPlan}
 use Rattle.xl_expr.specs.Measures.{nodes, nodes_of, nodes_at, depth, depth_of, depth_at}
 use Rattle.xl_expr.specs.Plans.{var_in}
 use Rattle.xl_flow.specs.Zeros.{room_of}
-use Rattle.xl_port.specs.Outputs.{output_depth, time_depth, time_nodes}
-use Rattle.xl_chan.specs.Transfers.{dest_depth, dest_nodes}
+use Rattle.xl_port.specs.Inputs.{input_depth, waiting_depth}
+use Rattle.xl_port.specs.Outputs.{driving_depth, output_depth}
+use Rattle.xl_port.specs.Timings.{time_depth, time_nodes, timing_expression}
+use Rattle.xl_expr.specs.Destinations.{dest_depth, dest_nodes}
 use Rattle.xl_statements.specs.Built.{IsBuilt, AreBuilt, BranchesAreBuilt, IsShallow, AreShallow, BranchesAreShallow, HasFewBranches, ParsAreFew, ParsInBranchesAreFew, most, most_branches, most_of_all, most_of_branches, most_levels}
 use Rattle.xl_statements.specs.Inside.{IsInside, AreInside, BranchesAreInside}
 use Rattle.xl_image.specs.Images.{IsPlan}
@@ -65,22 +67,38 @@ StatementsAreLow = EachOf IsLow IsLowPlace AnyNumber AnyOutput AnyInput AnyNumbe
 abbrev BranchesAreLow : kernel.Branches → Type 0
 BranchesAreLow = EachBranch IsLow IsLowPlace AnyNumber AnyOutput AnyInput AnyNumber
 
-output_low : (o : kernel.Output) (t : Option kernel.Expression) → o.time ≡ t → StatementIsLow (kernel.output o) → output_depth o ≤ most_levels
-output_low o None e h = both_low (time_depth o.time) (depth o.value) (subst (λ t. time_depth t ≤ most_levels) (sym e) (omega arith)) (low_expression o.value h.1.1.0)
-output_low o (Some x) e h =
-    let low : depth x ≤ most_levels = low_expression x (subst (λ t. EachMaybe IsLow IsLowPlace AnyNumber AnyOutput AnyInput AnyNumber t) e h.1.0) in
-    both_low (time_depth o.time) (depth o.value) (subst (λ t. time_depth t ≤ most_levels) (sym e) low) (low_expression o.value h.1.1.0)
+time_low : (t : Option kernel.Expression) → EachMaybe IsLow IsLowPlace AnyNumber AnyOutput AnyInput AnyNumber t → time_depth t ≤ most_levels
+time_low None h = omega arith
+time_low (Some x) h = low_expression x h
+
+timing_low : (t : Option kernel.Expression) (w : Option kernel.Condition) →
+    EachMaybe IsLow IsLowPlace AnyNumber AnyOutput AnyInput AnyNumber t →
+    EachCondition IsLow IsLowPlace AnyNumber AnyOutput AnyInput AnyNumber w → time_depth (timing_expression t w) ≤ most_levels
+timing_low (Some x) w h g = low_expression x h
+timing_low None (Some w) h g = low_expression w.value g
+timing_low None None h g = omega arith
 
 dest_low : (p : Option kernel.Place) → EachPlace IsLow IsLowPlace AnyNumber AnyOutput AnyInput AnyNumber p → dest_depth p ≤ most_levels
 dest_low None h = omega arith
 dest_low (Some p) h = low_place p h
 
+output_low : (o : kernel.Output) → StatementIsLow (kernel.output o) → output_depth o ≤ most_levels
+output_low o h =
+    both_low (driving_depth o) (dest_depth o.stamp)
+    (both_low (time_depth o.time) (depth o.value) (time_low o.time h.1.0) (low_expression o.value h.1.1.0)) (dest_low o.stamp h.1.1.1)
+
+input_low : (i : kernel.Input) → StatementIsLow (kernel.input i) → input_depth i ≤ most_levels
+input_low i h =
+    both_low (max (waiting_depth i) (dest_depth i.target)) (dest_depth i.stamp)
+    (both_low (waiting_depth i) (dest_depth i.target) (timing_low i.time i.condition h.1.0 h.1.1.0) (dest_low i.target h.1.1.1.0))
+    (dest_low i.stamp h.1.1.1.1)
+
 mutual
   shallow : (s : kernel.Statement) → StatementIsLow s → IsShallow s
   shallow (kernel.set_zero v) h = tt
   shallow (kernel.set p e) h = (low_place p h.0, low_expression e h.1)
-  shallow (kernel.output o) h = output_low o o.time refl h
-  shallow (kernel.input i) h = dest_low i.target h.1.1.1.0
+  shallow (kernel.output o) h = output_low o h
+  shallow (kernel.input i) h = input_low i h
   shallow (kernel.if_then x a b) h = (low_expression x h.0, all_shallow a h.1.0, all_shallow b h.1.1)
   shallow (kernel.loop x a b) h = (low_expression x h.0, all_shallow a h.1.0, all_shallow b h.1.1)
   shallow (kernel.block n a) h = all_shallow a h
@@ -234,13 +252,24 @@ same_time : (t : Option kernel.Expression) → time_nodes t ≡ parts.of_maybe t
 same_time None = refl
 same_time (Some x) = same_nodes x
 
+-- a time or condition counts as both
+few_waiting : (t : Option kernel.Expression) (w : Option kernel.Condition) →
+    time_nodes (timing_expression t w) ≤ parts.of_maybe t + parts.of_condition w
+few_waiting (Some x) w = let a = same_nodes x in omega (arith, a)
+few_waiting None (Some w) = let a = same_nodes w.value in omega (arith, a)
+few_waiting None None = omega arith
+
 module _ (vs : List Var) (vars : List (Option VarPlan)) (zeros : (v : ℕ) → room_of (var_in vars v) ≤ 2 * words_of (slice_get vs v) + 2) where
   mutual
-    few : (s : kernel.Statement) → IsBuilt s → most vars s ≤ 14 * parts.of_statement vs s
+    few : (s : kernel.Statement) → IsBuilt s → most vars s ≤ 32 * parts.of_statement vs s
     few (kernel.set_zero v) h = let z = zeros v in omega (arith, z)
     few (kernel.set p e) h = let a = same_nodes_at p in let b = same_nodes e in omega (arith, a, b)
-    few (kernel.output o) h = let a = same_time o.time in let b = same_nodes o.value in let c = some_nodes o.value in omega (arith, a, b, c)
-    few (kernel.input i) h = let a = same_dest i.target in omega (arith, a)
+    few (kernel.output o) h =
+        let a = same_time o.time in let b = same_nodes o.value in let c = some_nodes o.value in let d = same_dest o.stamp in
+        omega (arith, a, b, c, d)
+    few (kernel.input i) h =
+        let w = few_waiting i.time i.condition in let a = same_dest i.target in let b = same_dest i.stamp in
+        omega (arith, w, a, b)
     few (kernel.if_then x a b) h =
         let n = same_nodes x in let m = some_nodes x in let p = all_few a h.0 in let q = all_few b h.1 in omega (arith, n, m, p, q)
     few (kernel.loop x a b) h =
@@ -251,15 +280,15 @@ module _ (vs : List Var) (vars : List (Option VarPlan)) (zeros : (v : ℕ) → r
     few (kernel.par bs) h = few_in bs h
     few (kernel.transaction c is_master a start close) h = absurd h
 
-    all_few : (ss : kernel.Statements) → AreBuilt ss → most_of_all vars ss ≤ 14 * parts.of_statements vs ss
+    all_few : (ss : kernel.Statements) → AreBuilt ss → most_of_all vars ss ≤ 32 * parts.of_statements vs ss
     all_few kernel.no_more h = omega arith
     all_few (kernel.more s ss) h = let a = few s h.0 in let b = all_few ss h.1 in omega (arith, a, b)
 
-    few_in : (bs : kernel.Branches) → BranchesAreBuilt bs → most_of_branches vars bs + 13 * branch_count bs ≤ 14 * parts.of_branches vs bs
+    few_in : (bs : kernel.Branches) → BranchesAreBuilt bs → most_of_branches vars bs + 13 * branch_count bs ≤ 32 * parts.of_branches vs bs
     few_in kernel.no_branch h = omega arith
     few_in (kernel.more_branches (kernel.branch ss pos) bs) h = let a = all_few ss h.0 in let b = few_in bs h.1 in omega (arith, a, b)
 
-  roots_few : (rs : List kernel.Root) → RootsAreBuilt rs → most_of_roots vars rs ≤ 14 * parts.of_roots vs rs
+  roots_few : (rs : List kernel.Root) → RootsAreBuilt rs → most_of_roots vars rs ≤ 32 * parts.of_roots vs rs
   roots_few [] h = omega arith
   roots_few (r ∷ rs) h = let a = all_few r.body h.0 in let b = roots_few rs h.1 in omega (arith, a, b)
 

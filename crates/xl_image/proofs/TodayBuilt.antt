@@ -1,36 +1,29 @@
--- Kernels are built so far whose programs are built today: no statement of a later form is in them, and as they have no timer and
--- no port that is read, each input comes from a channel. As no branch is placed, main is the one root, and no channel leaves it.
+-- Kernels are built so far whose programs are built today: no statement of a later form is in them. As no branch is placed, main is
+-- the one root, and no channel leaves it.
 use Rattle.std.proofs.lemmas.Option.{same_Some}
-use Rattle.std.proofs.Common.{◌≡◌, ℕ, zero, suc, ◌<◌, Bool, true, false, ◌&&◌, ◌||◌, List, [], ◌∷◌, length, Option, None, Some, is_some, map, slice_get, nat_lt, refl, sym, ap, subst, ◌∙◌, true≢false, arith}
+use Rattle.std.proofs.Common.{◌≡◌, ℕ, zero, suc, Bool, true, false, ◌&&◌, ◌||◌, List, [], ◌∷◌, length, Option, None, Some, is_some, slice_get, nat_lt, refl, sym, ap, subst, ◌∙◌, true≢false}
 use Rattle.xc_tree.specs.Derives.{unlimited}
-use Rattle.xc_tree.specs.declared.tree.TreeDir.{TreeDir}
-use Rattle.xc_tree.specs.declared.tree.TreeDir.TheVariants.{Out}
-use Rattle.xc_tree.specs.Types.Entities.{reads}
 use Rattle.xc_tree.specs.Plain as tree
 use Rattle.xc_kernel.specs.declared.kernel.PortUse.{PortUse}
-use Rattle.xc_kernel.specs.declared.kernel.Timer.{Timer}
 use Rattle.xc_kernel.specs.declared.statement.KRes.{KRes}
 use Rattle.xc_kernel.specs.declared.statement.KRes.TheVariants.{Port, Timer as Clock, Chan}
 use Rattle.xc_kernel.specs.Plain as kernel
-use Rattle.xc_kernel.specs.Paths.{each_once}
-use Rattle.xc_kernel.specs.Numbering.{Numbering, path_of_timer, no_numbering}
+use Rattle.xc_kernel.specs.Numbering.{Numbering}
 use Rattle.xc_kernel.specs.Programs.{Function, functions, ports, main_of, name_of_main}
 use Rattle.xc_kernel.specs.Context.{Context}
 use Rattle.xc_kernel.specs.Calls.{CopiesCall, function_copy}
 use Rattle.xc_kernel.specs.Statements.{statement_copy}
 use Rattle.xc_kernel.specs.Roots.{Rooted, is_placed, has_placed, action_has_placed, block_has_placed, in_block, context_of, roots_by, roots_of}
-use Rattle.xc_kernel.specs.Ports.{port_use}
 use Rattle.xc_kernel.specs.Copies.{calls_of, rooted, copy_of}
 use Rattle.xc_wellformed.specs.Each.{AnyExpression, AnyPlace, AnyNumber, EachStatement, EachOf, EachBranch, EachRoot}
-use Rattle.xc_wellformed.specs.Transfers.{OutputGoes, InputComes, GoesOut, ComesIn, can_read}
+use Rattle.xc_wellformed.specs.Transfers.{OutputGoes, GoesOut, ComesIn}
 use Rattle.xc_wellformed.proofs.Formed.{transfers_right}
 use Rattle.xc_wellformed.proofs.Grammar.{AllOf, MaybeOf}
-use Rattle.xl_statements.specs.Built.{IsSent, IsReceived, IsBuilt, AreBuilt, BranchesAreBuilt}
+use Rattle.xl_statements.specs.Built.{IsSent, IsBuilt, AreBuilt, BranchesAreBuilt}
 use Rattle.xl_image.specs.Roots.{RootsAreBuilt, StayOnCores}
 use Rattle.xc_today.specs.Today.{AreItemsUnstamped}
-use Rattle.xl_image.specs.TodayLaws.{AreOutItems, KernelsAreBuilt}
+use Rattle.xl_image.specs.TodayLaws.{KernelsAreBuilt}
 use Rattle.xl_image.proofs.TodayEarly.{IsEarlyAction, IsEarly, AreEarly, IsEarlyBranch, AreEarlyBranches, IsEarlyItem, program_early}
-use Rattle.xl_image.proofs.TodayPorts.{items_go_out}
 use Rattle.xl_image.proofs.TodayCopied.{IsEarlyCode, AreEarlyCode, HaveEarlyCode, IsEarlyFunction, CallsEarly, as_statements, named_early, function_early, calls_early}
 
 -- Roots.
@@ -44,7 +37,6 @@ IsOneRoot rs = (i j : ℕ) (r s : kernel.Root) → slice_get rs i ≡ Some r →
 
 record IsEarlyRooted (r : Rooted) : Type 0 where
   pub roots : AllOf IsEarlyRoot r.roots
-  pub timers : r.made.timers ≡ []
   pub one : IsOneRoot r.roots
 
 no_root_is_one : IsOneRoot []
@@ -82,10 +74,10 @@ main_early copies calls f c true e fs h = absurd (true≢false e)
 main_early copies calls f c false e fs h =
     let copy = function_copy (statement_copy copies) c c.ports [] f [] in
     let made = function_early copies calls c c.ports [] f [] fs h in
-    record { roots = (as_statements copy.code made.code, tt); timers = made.timers; one = root_is_one _ }
+    record { roots = (as_statements copy.code made.code, tt); one = root_is_one _ }
 
 some_early : (copies : CopiesCall) → CallsEarly copies → (c : Context) (o : Option Function) → AllOf IsEarlyFunction c.functions → MaybeOf IsEarlyFunction o → IsEarlyRooted (roots_of copies o c)
-some_early copies calls c None fs h = record { roots = tt; timers = refl; one = no_root_is_one }
+some_early copies calls c None fs h = record { roots = tt; one = no_root_is_one }
 some_early copies calls c (Some f) fs h = main_early copies calls f c (block_has_placed (in_block f.body)) (block_unplaced (in_block f.body) (in_block_early f.body h.early)) fs h
 
 rooted_early : (P : List tree.Item) (num : Numbering) → AllOf IsEarlyFunction (functions P) → IsEarlyRooted (rooted P num)
@@ -102,58 +94,26 @@ copy_roots : (P : List tree.Item) → AllOf IsEarlyFunction (functions P) → Al
 unfolding copy_of
 copy_roots P fs = (rooted_early P _ fs).roots
 
-copy_timers : (P : List tree.Item) → AllOf IsEarlyFunction (functions P) → (copy_of P).timers ≡ []
-unfolding copy_of
-copy_timers P fs = ap (each_once path_of_timer) (rooted_early P no_numbering fs).timers
-
 copy_one : (P : List tree.Item) → AllOf IsEarlyFunction (functions P) → IsOneRoot (copy_of P).roots
 unfolding copy_of
 copy_one P fs = (rooted_early P _ fs).one
 
--- Ports.
-
--- no port is read
-abbrev NoneIsRead : List PortUse → Type 0
-NoneIsRead = AllOf (λ p. can_read p ≡ false)
-
-out_unread : (d : TreeDir) → d ≡ Out → reads d ≡ false
-out_unread d e = ap reads e
-
-ports_unread : (P : List tree.Item) → AreOutItems P → NoneIsRead (map port_use (ports P))
-ports_unread [] h = tt
-ports_unread (tree.function head s ∷ P) h = ports_unread P h.1
-ports_unread (tree.port p ∷ P) h = (out_unread p.dir h.0, ports_unread P h.1)
-
-copy_ports : (P : List tree.Item) → AreOutItems P → NoneIsRead (copy_of P).ports
-unfolding copy_of
-copy_ports P h = ports_unread P h
-
-unread_at : (ps : List PortUse) (i : ℕ) (p : PortUse) → NoneIsRead ps → slice_get ps i ≡ Some p → can_read p ≡ false
-unread_at [] i p h e = absurd (cc)
-unread_at (x ∷ ps) zero p h e = let g : x ≡ p = cc in subst (λ y. can_read y ≡ false) g h.0
-unread_at (x ∷ ps) (suc i) p h e = unread_at ps i p h.1 e
-
 -- Transfers.
 
--- an output goes to a port, with no stamp, or to a channel
-sent : (ps : List PortUse) (channels timers : ℕ) (r : KRes) (time : Option kernel.Expression) (stamp : Option kernel.Place) → stamp ≡ None → OutputGoes ps channels timers r time stamp → IsSent r stamp
-sent ps channels timers (Port p) time stamp e h = e
-sent ps channels timers (Clock t) time stamp e h = absurd h
-sent ps channels timers (Chan c) time stamp e h = tt
+-- an output goes to a port or a channel
+sent : (ps : List PortUse) (channels timers : ℕ) (r : KRes) (time : Option kernel.Expression) (stamp : Option kernel.Place) →
+    OutputGoes ps channels timers r time stamp → IsSent r
+sent ps channels timers (Port p) time stamp h = tt
+sent ps channels timers (Clock t) time stamp h = absurd h
+sent ps channels timers (Chan c) time stamp h = tt
 
--- without timers and ports that are read an input comes from a channel
-received : (ps : List PortUse) (channels : ℕ) (ts : List Timer) (r : KRes) (time : Option kernel.Expression) (condition : Option kernel.Condition) (stamp : Option kernel.Place) → NoneIsRead ps → ts ≡ [] → InputComes ps channels (length ts) r time condition stamp → IsReceived r
-received ps channels ts (Port p) time condition stamp unread e h = absurd (true≢false (sym h.0.direction ∙ unread_at ps p h.0.port unread h.0.there))
-received ps channels ts (Clock t) time condition stamp unread e h = let g : t < 0 = subst (λ (l : List Timer). t < length l) e h.0 in absurd (omega arith)
-received ps channels ts (Chan c) time condition stamp unread e h = tt
-
-module _ (K : kernel.Kernel) (unread : NoneIsRead K.ports) (none : K.timers ≡ []) where
+module _ (K : kernel.Kernel) where
   mutual
     statement_built : (s : kernel.Statement) → IsEarlyCode s → EachStatement AnyExpression AnyPlace AnyNumber (GoesOut K) (ComesIn K) AnyNumber s → IsBuilt s
     statement_built (kernel.set_zero v) h g = tt
     statement_built (kernel.set p e) h g = tt
-    statement_built (kernel.output o) h g = sent K.ports (length K.channels) (length K.timers) o.resource o.time o.stamp h g.0
-    statement_built (kernel.input i) h g = received K.ports (length K.channels) K.timers i.resource i.time i.condition i.stamp unread none g.0
+    statement_built (kernel.output o) h g = sent K.ports (length K.channels) (length K.timers) o.resource o.time o.stamp g.0
+    statement_built (kernel.input i) h g = tt
     statement_built (kernel.if_then e a b) h g = (statements_built a h.0 g.1.0, statements_built b h.1 g.1.1)
     statement_built (kernel.loop e a b) h g = (statements_built a h.0 g.1.0, statements_built b h.1 g.1.1)
     statement_built (kernel.block n a) h g = statements_built a h g
@@ -183,10 +143,8 @@ pub kernels_are_built : KernelsAreBuilt
 kernels_are_built toks P n types K derived deep today typed copies =
     let early = program_early toks today.words unlimited 0 (length toks) P derived in
     let fs = functions_early P early today.stamps in
-    let unread : NoneIsRead K.ports = subst (λ (k : kernel.Kernel). NoneIsRead k.ports) (sym copies.is_copy) (copy_ports P (items_go_out toks today.words today.ports P derived)) in
-    let none : K.timers ≡ [] = ap (λ (k : kernel.Kernel). k.timers) copies.is_copy ∙ copy_timers P fs in
     let roots : AllOf IsEarlyRoot K.roots = subst (λ (k : kernel.Kernel). AllOf IsEarlyRoot k.roots) (sym copies.is_copy) (copy_roots P fs) in
     record {
-      roots = roots_built K unread none K.roots roots (transfers_right P n types K typed deep copies);
+      roots = roots_built K K.roots roots (transfers_right P n types K typed deep copies);
       stay = stay_where_one K (subst (λ (k : kernel.Kernel). IsOneRoot k.roots) (sym copies.is_copy) (copy_one P fs));
     }
