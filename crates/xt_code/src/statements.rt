@@ -1,7 +1,7 @@
 // Steps of code as the cases write them: assignments, variables that become 0, outputs, tests and jumps.
 
 ghost use Rattle.std.specs.Bool.{OnTrue};
-ghost use Rattle.std.specs.Prelude.{◌≡◌, ◌≤◌, length, IfOk, OnOk, None as Without};
+ghost use Rattle.std.specs.Prelude.{◌≡◌, ◌≤◌, length, IfOk, OnOk};
 ghost use Rattle.xc_kernel.specs.Kernels.{expression_of, output_of as plain_output, place_of};
 ghost use Rattle.xl_expr.specs.Measures.{depth, depth_at, nodes, nodes_at};
 ghost use Rattle.xl_expr.specs.Plans.{var_in};
@@ -126,7 +126,6 @@ fn add_output(e: &mut Emitter, plan: &Plan, text: &str) -> Result<(), Trouble>
 fn output_of(text: &str) -> Result<KOut, Trouble>
     ensures nodes { IfOk result (λ output. output_nodes (plain_output output) ≤ 2) }
     ensures depth { IfOk result (λ output. output_depth (plain_output output) ≤ 1) }
-    ensures unstamped { IfOk result (λ output. output.stamp ≡ Without) }
 {
     let (port, rest) = text.split_once(' ').ok_or(Trouble::Line)?;
     let port = number(port)?;
@@ -141,7 +140,6 @@ fn output_of(text: &str) -> Result<KOut, Trouble>
 fn output(port: u32, time: Option<u32>, value: u32) -> KOut
     ensures nodes { output_nodes (plain_output result) ≤ 2 }
     ensures depth { output_depth (plain_output result) ≤ 1 }
-    ensures unstamped { result.stamp ≡ Without }
 {
     KOut {
         res: KRes::Port(port),
