@@ -108,6 +108,9 @@ pub record SamplesPort (plan : Plan) (i : kernel.Input) (pc : ℕ) (lines : List
       (SampleOutcome home relied s t thread a.words p port i.pos (pc + length lines) (timing store i.time i.condition))
       (8 * waiting_nodes i + 4) a
 
+-- An input waits at its own instruction, which pauses exactly as long as the port's counter and pins aren't what it waits for. The whole
+-- word of a condition is handed over: the machine takes those of its bits that the port has.
+
 -- The lines of an input: those of its transfer, then those that write the value, which stands in r0, and then those that write the port's
 -- counter, each where there is a place for it.
 pub record Inputs (plan : Plan) (i : kernel.Input) (pc : ℕ) (lines : List Line) : Type 0 where

@@ -18,6 +18,9 @@ use Rattle.xl_expr.specs.Stores.{StoreOutcome, index_in}
 use Rattle.xl_expr.specs.Works.{PlaceIsLaid}
 use Rattle.xl_port.specs.Resources.{PortStands}
 
+-- The port is named again for its stamp, since the store of an element uses r11. So the stamp's code is the same behind an output, an input
+-- with a target and one without.
+
 -- The lines write the stamp of a port to a place: wherever they stand from index pc on, in each state of the core in which the plan's
 -- layout holds, and whatever other threads do in between that leaves what this one relies on, the thread stands after at most 8 own steps
 -- for each node and two more where its next step writes the stamp that the port has at the beginning, or traps with the error of the

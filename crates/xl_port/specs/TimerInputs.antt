@@ -67,6 +67,9 @@ module _
       (c : CoreState) → KeptParts relied (timer_alone n) t b c → ReadsClock home relied s t thread old n timer pos pc when c
   ClockOutcome (fails kind at_pos') b = (c : CoreState) → KeptParts relied (timer_alone n) t b c → Errs home t kind at_pos' c
 
+-- A timer has no time to be set. That its input has none, and that its condition asks for the clock, are premises, which a well-formed
+-- kernel meets.
+
 -- The lines read the clock to r0: wherever they stand from index pc on, in each state of the core in which the plan's layout holds, and
 -- whatever other threads do in between that leaves what this one relies on, the thread stands after at most 8 own steps for each node of
 -- the condition and four more where its next step reads the clock as soon as it may, or traps with the condition's error.
