@@ -1,7 +1,6 @@
 -- An output: time, value and transfer, one after another.
-use Rattle.std.proofs.Common.{◌≡◌, ℕ, ◌+◌, ◌*◌, Bool, true, false, List, ◌++◌, length, Option, Some, None, refl, sym, ap, ◌∙◌, subst, arith, length-append}
+use Rattle.std.proofs.Common.{◌≡◌, ℕ, ◌+◌, ◌*◌, Bool, true, List, ◌++◌, length, Option, Some, None, refl, sym, ap, ◌∙◌, subst, arith, length-append}
 use Rattle.std.specs.Prelude.{option_map, slice_get}
-use Rattle.xw_words.specs.declared.pos.Pos.{Pos}
 use Rattle.xs_instr.specs.declared.image.Home.{Home}
 use Rattle.xs_instr.specs.declared.instr.Instr.TheVariants.{Out}
 use Rattle.xs_instr.specs.declared.instr.Reg.TheVariants.{R0, R10, R11}
@@ -16,10 +15,9 @@ use Rattle.xs_instr.specs.Ports.{can_send, counter, drives_by}
 use Rattle.xs_instr.specs.Registers.{reg_set}
 use Rattle.xs_instr.specs.Rows.{goes_with, put_ports}
 use Rattle.xc_kernel.specs.Plain as kernel
-use Rattle.xc_kernel.specs.Values.{Value, word, error}
+use Rattle.xc_kernel.specs.Values.{Value, word}
 use Rattle.xc_kernel.specs.Eval.{Store, eval}
 use Rattle.xl_expr.specs.declared.plan.Plan.{Plan}
-use Rattle.xl_expr.specs.declared.plan.ResAt.{ResAt}
 use Rattle.xl_expr.specs.Measures.{nodes}
 use Rattle.xl_expr.specs.PartSteps.{WithinParts}
 use Rattle.xl_expr.specs.Plans.{resource_in}
@@ -29,12 +27,12 @@ use Rattle.xl_expr.proofs.Lists.{stand_back, stand_front}
 use Rattle.xl_expr.proofs.Ways.{at_pc}
 use Rattle.xl_port.specs.declared.setting.Waits.{Waits}
 use Rattle.xl_port.specs.declared.setting.Waits.TheVariants.{AtOnce, Time}
-use Rattle.xl_port.specs.Outputs.{DrivesPort, OutputOutcome, PutsOut, ValueOutcome, driving_nodes, set_for}
+use Rattle.xl_port.specs.Outputs.{DrivesPort, OutputOutcome, PutsOut, ValueOutcome, set_for}
 use Rattle.xl_port.specs.Resources.{PortStands}
 use Rattle.xl_port.specs.Timings.{TimeIsLaid, port_set, time_nodes}
-use Rattle.xl_port.specs.Waits.{TimeEvaluates, UsesName, transfer_instrs, wait_for, when_of}
+use Rattle.xl_port.specs.Waits.{TimeEvaluates, UsesName, transfer_instrs, waits_for, when_of}
 use Rattle.xl_port.proofs.PortRows.{out_row_is, port_is, port_lasts}
-use Rattle.xl_port.proofs.Since.{Since, at_first, other_r11, since_kept, turn_since, uses_lead, value_leads, working_r0, working_r10}
+use Rattle.xl_port.proofs.Since.{Since, at_first, since_kept, turn_since, uses_lead, value_leads, working_r0, working_r10}
 use Rattle.xl_port.proofs.Waiting.{FitsPort, HoldsWord, holds_still, port_set_leads}
 
 module _ (plan : Plan) (o : kernel.Output) (home : Home) (relied : ℕ → Bool) (s t p : ℕ) (port : Port) (thread : Thread) (store : Store)
@@ -107,7 +105,7 @@ module _ (plan : Plan) (o : kernel.Output) (home : Home) (relied : ℕ → Bool)
   by_time : (time : Option kernel.Expression) (fs ls ms : List Line) → pc + length fs + length ls + length ms ≡ end →
       TimeEvaluates plan.vars time pc fs → TimeIsLaid plan.vars relied s thread.regs.dp a.words store time →
       Evaluates plan.vars o.value R0 (pc + length fs) ls →
-      UsesName (resource_in plan.ports plan.timers o.resource) (transfer_instrs (wait_for time None) (Out R11 R0)) o.pos
+      UsesName (resource_in plan.ports plan.timers o.resource) (transfer_instrs (waits_for time None) (Out R11 R0)) o.pos
       (pc + length fs + length ls) ms → StandAt home.parts.code pc (fs ++ (ls ++ ms)) →
       LeadsTo (OutputOutcome home relied s t thread a.words p port o.pos end (option_map (eval store) time) (eval store o.value))
       (8 * (time_nodes time + nodes o.value) + 4) a
@@ -137,7 +135,7 @@ pub record ValueSent (plan : Plan) (o : kernel.Output) (pc : ℕ) (lines : List 
   pub is : lines ≡ value ++ transfer
   pub evaluates : Evaluates plan.vars o.value R0 pc value
   pub uses : UsesName
-      (resource_in plan.ports plan.timers o.resource) (transfer_instrs (wait_for o.time None) (Out R11 R0))
+      (resource_in plan.ports plan.timers o.resource) (transfer_instrs (waits_for o.time None) (Out R11 R0))
       o.pos (pc + length value) transfer
 
 -- the clause of the transfer, from those of the parts

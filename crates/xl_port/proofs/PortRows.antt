@@ -1,16 +1,14 @@
 -- What the instructions of a transfer do on a port that is there and that r11 names.
-use Rattle.std.proofs.Common.{◌≡◌, ℕ, ◌+◌, ◌%◌, ◌^◌, Bool, true, false, List, Option, Some, None, refl, ap, ◌∙◌}
+use Rattle.std.proofs.Common.{◌≡◌, ℕ, ◌+◌, ◌%◌, ◌^◌, Bool, true, false, List, Some, None, refl, ap, ◌∙◌}
 use Rattle.std.specs.Prelude.{slice_get, slice_set}
 use Rattle.xs_instr.specs.declared.image.Home.{Home}
 use Rattle.xs_instr.specs.declared.instr.Cond.{Cond}
 use Rattle.xs_instr.specs.declared.instr.Instr.{Instr}
 use Rattle.xs_instr.specs.declared.instr.Instr.TheVariants.{Getts, In, Out, Setc, Setd, Setpt}
-use Rattle.xs_instr.specs.declared.instr.Reg.{Reg}
 use Rattle.xs_instr.specs.declared.instr.Reg.TheVariants.{R0, R10, R11}
 use Rattle.xs_instr.specs.declared.state.CoreState.{CoreState}
 use Rattle.xs_instr.specs.declared.state.Mode.TheVariants.{Running}
 use Rattle.xs_instr.specs.declared.state.Port.{Port}
-use Rattle.xs_instr.specs.declared.state.PortGot.{PortGot}
 use Rattle.xs_instr.specs.declared.state.Regs.{Regs}
 use Rattle.xs_instr.specs.declared.state.Res.TheVariants.{Port as ResPort}
 use Rattle.xs_instr.specs.declared.state.Thread.{Thread}
@@ -19,10 +17,8 @@ use Rattle.xs_instr.specs.Ports.{can_receive, can_send, counter, drives, drives_
 use Rattle.xs_instr.specs.Registers.{reg_set}
 use Rattle.xs_instr.specs.Resources.{APort, named, on_port, usable}
 use Rattle.xs_instr.specs.Rows.{cond_row, data_row, gets_with, goes_with, in_row, out_row, put_ports, row}
-use Rattle.xl_expr.specs.PartSteps.{KeptParts}
 use Rattle.xs_instr.specs.Slot.{is_waiteu}
 use Rattle.xl_expr.specs.ResourceParts.{port_alone}
-use Rattle.xl_expr.specs.Stores.{is_working}
 use Rattle.xl_expr.proofs.Lists.{get_set_other, get_set_same}
 use Rattle.xl_expr.proofs.ResourceParts.{others_of_port, others_same, port_same}
 use Rattle.xl_expr.proofs.Ways.{at_pc}

@@ -1,5 +1,5 @@
 -- An input from a timer: condition and transfer, one after the other.
-use Rattle.std.proofs.Common.{◌≡◌, ℕ, ◌+◌, Bool, List, length, Option, Some, None, refl, ap, ◌∙◌, subst, arith, length-append}
+use Rattle.std.proofs.Common.{◌≡◌, ℕ, ◌+◌, Bool, List, length, Some, None, refl, ap, ◌∙◌, subst, arith, length-append}
 use Rattle.std.specs.Prelude.{slice_get}
 use Rattle.xw_words.specs.declared.pos.Pos.{Pos}
 use Rattle.xs_instr.specs.declared.image.Home.{Home}
@@ -27,7 +27,7 @@ use Rattle.xl_expr.proofs.Lists.{stand_back, stand_front}
 use Rattle.xl_expr.proofs.Ways.{at_pc}
 use Rattle.xl_port.specs.TimerInputs.{ClockOutcome, ReadsClock, ReadsTimer}
 use Rattle.xl_port.specs.Timings.{timer_set}
-use Rattle.xl_port.specs.Waits.{TakesIn, transfer_instrs, wait_for, when_of}
+use Rattle.xl_port.specs.Waits.{TakesIn, transfer_instrs, waits_for, when_of}
 use Rattle.xl_port.proofs.Since.{Since, at_first, since_kept, turn_since, uses_lead}
 use Rattle.xl_port.proofs.TimerRows.{in_row_is, timer_is, timer_lasts}
 use Rattle.xl_port.proofs.Waiting.{holds_still, time_fits, timer_set_leads, timing_leads}
@@ -83,7 +83,7 @@ reads_by_parts plan i pc lines takes = record {
       let end = pc + length lines in
       let old = a.words in
       let mine = timer_alone m in
-      let waits = wait_for i.time i.condition in
+      let waits = waits_for i.time i.condition in
       let place = resource_in plan.ports plan.timers i.resource in
       let instrs = transfer_instrs waits (In R0 R11) in
       let pc1 = pc + length takes.timing in

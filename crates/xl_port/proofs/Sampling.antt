@@ -1,5 +1,5 @@
 -- An input from a port: time or condition, and transfer, one after another.
-use Rattle.std.proofs.Common.{◌≡◌, ℕ, ◌+◌, ◌*◌, Bool, true, false, List, [], ◌++◌, length, Option, Some, None, refl, sym, ap, ◌∙◌, subst, arith, length-append}
+use Rattle.std.proofs.Common.{◌≡◌, ℕ, ◌+◌, Bool, true, List, [], ◌++◌, length, Some, None, refl, ap, ◌∙◌, subst, arith, length-append}
 use Rattle.std.specs.Prelude.{slice_get}
 use Rattle.xw_words.specs.declared.pos.Pos.{Pos}
 use Rattle.xs_instr.specs.declared.image.Home.{Home}
@@ -12,7 +12,7 @@ use Rattle.xs_instr.specs.declared.state.Thread.{Thread}
 use Rattle.xs_instr.specs.declared.trace.Record.TheVariants.{PortIn}
 use Rattle.xs_instr.specs.Did.{Made, told}
 use Rattle.xs_instr.specs.Lines.{Line}
-use Rattle.xs_instr.specs.OwnSteps.{HasRoom, RunsAt, StandAt}
+use Rattle.xs_instr.specs.OwnSteps.{RunsAt, StandAt}
 use Rattle.xs_instr.specs.Ports.{can_receive, counter, pins_of, reads_now}
 use Rattle.xs_instr.specs.Registers.{reg_set}
 use Rattle.xs_instr.specs.Resources.{APort, named}
@@ -29,7 +29,7 @@ use Rattle.xl_expr.proofs.Lists.{stand_back, stand_front}
 use Rattle.xl_expr.proofs.Ways.{at_pc}
 use Rattle.xl_port.specs.Inputs.{ReadsPins, SampleOutcome, SamplesPort, come_in}
 use Rattle.xl_port.specs.Timings.{port_set}
-use Rattle.xl_port.specs.Waits.{TakesIn, transfer_instrs, wait_for, when_of}
+use Rattle.xl_port.specs.Waits.{TakesIn, transfer_instrs, waits_for, when_of}
 use Rattle.xl_port.proofs.PortRows.{in_row_is, port_is, port_lasts}
 use Rattle.xl_port.proofs.Since.{Since, at_first, since_kept, turn_since, uses_lead}
 use Rattle.xl_port.proofs.Waiting.{holds_still, pins_fit, port_set_leads, timing_leads}
@@ -103,7 +103,7 @@ samples_by_parts plan i pc lines takes = record {
       let end = pc + length lines in
       let old = a.words in
       let mine = port_alone p in
-      let waits = wait_for i.time i.condition in
+      let waits = waits_for i.time i.condition in
       let place = resource_in plan.ports plan.timers i.resource in
       let instrs = transfer_instrs waits (In R0 R11) in
       let pc1 = pc + length takes.timing in

@@ -15,7 +15,7 @@ use Rattle.xs_instr.specs.declared.state.Timer.{Timer}
 use Rattle.xs_instr.specs.Did.{makes}
 use Rattle.xs_instr.specs.Lines.{Line, at_pos}
 use Rattle.xs_instr.specs.Memory.{address_at}
-use Rattle.xs_instr.specs.OwnSteps.{HasRoom, IsApart, IsWord, Kept, OwnStep, RunsAt, StandAt, Within}
+use Rattle.xs_instr.specs.OwnSteps.{HasRoom, IsApart, IsWord, OwnStep, RunsAt, StandAt, Within}
 use Rattle.xs_instr.specs.Registers.{reg_get, reg_set}
 use Rattle.xs_instr.specs.Rows.{put_own, row}
 use Rattle.xs_instr.specs.Slot.{is_waiteu, slot}
@@ -37,12 +37,12 @@ use Rattle.xl_expr.proofs.Lasting.{laid_lasts}
 use Rattle.xl_expr.proofs.Lists.{get_set_same, room_kept, stand_back, stand_front, word_by_same}
 use Rattle.xl_expr.proofs.ResourceParts.{others_same}
 use Rattle.xl_expr.proofs.Ways.{at_pc, own, turn_row}
-use Rattle.xl_expr.proofs.Wider.{leads_map, leads_more, then_leads}
+use Rattle.xl_expr.proofs.Wider.{leads_more, then_leads}
 use Rattle.xl_port.specs.Resources.{ResourceIs}
 use Rattle.xl_port.specs.Waits.{UsesName}
 
 -- a register that no part changes
-pub working_scratch : (r : Reg) → is_working r ≡ false → is_scratch r ≡ false
+working_scratch : (r : Reg) → is_working r ≡ false → is_scratch r ≡ false
 working_scratch R0 h = cc
 working_scratch R11 h = cc
 working_scratch other h = refl

@@ -1,5 +1,5 @@
 -- The time or condition of a transfer comes to r10, and sets a port or a timer.
-use Rattle.std.proofs.Common.{◌≡◌, ℕ, zero, suc, ◌+◌, ◌*◌, Bool, true, false, List, ◌++◌, Option, Some, None, refl, sym, ap, ◌∙◌, subst, arith, length, inl, inr}
+use Rattle.std.proofs.Common.{◌≡◌, ℕ, suc, ◌+◌, ◌*◌, Bool, true, false, List, Option, Some, None, refl, sym, ap, ◌∙◌, subst, arith, length, inl, inr}
 use Rattle.std.specs.Prelude.{nat_eq, slice_get, if◌then◌else◌}
 use Rattle.xw_words.specs.declared.pos.Pos.{Pos}
 use Rattle.xs_instr.specs.declared.image.Home.{Home}
@@ -20,10 +20,10 @@ use Rattle.xs_instr.specs.Resources.{APort, ATimer, named}
 use Rattle.xc_tree.specs.Words.{pinseq_word, pinsneq_word}
 use Rattle.xc_kernel.specs.Conditions.{AsksForPins, AsksForTime}
 use Rattle.xc_kernel.specs.Plain as kernel
-use Rattle.xc_kernel.specs.Values.{ErrorKind, Value}
-use Rattle.xc_kernel.specs.Eval.{Store, eval}
+use Rattle.xc_kernel.specs.Values.{ErrorKind}
+use Rattle.xc_kernel.specs.Eval.{Store}
 use Rattle.xc_meaning.specs.Settings.Time.{Timing, fails, passes, timing, timing_by, when_tested}
-use Rattle.xc_meaning.specs.States.Items.{When, at_time, pins_equal, pins_differ, after_time}
+use Rattle.xc_meaning.specs.States.Items.{at_time, pins_equal, pins_differ, after_time}
 use Rattle.xl_expr.specs.declared.plan.VarPlan.{VarPlan}
 use Rattle.xl_expr.specs.PartSteps.{KeptParts, PartsStep}
 use Rattle.xl_expr.specs.ResourceParts.{port_alone, timer_alone}
@@ -34,7 +34,7 @@ use Rattle.xl_port.specs.declared.setting.Test.TheVariants.{PinsEqual, PinsDiffe
 use Rattle.xl_port.specs.declared.setting.Waits.{Waits}
 use Rattle.xl_port.specs.declared.setting.Waits.TheVariants.{AtOnce, Time, Condition}
 use Rattle.xl_port.specs.Timings.{TimeIsLaid, port_set, time_nodes, timer_set, timing_expression}
-use Rattle.xl_port.specs.Waits.{TimeEvaluates, cond_of, test_named, transfer_instrs, wait_for, when_of}
+use Rattle.xl_port.specs.Waits.{TimeEvaluates, cond_of, test_named, transfer_instrs, waits_for, when_of}
 use Rattle.xl_port.proofs.Since.{Lasts, Since, Leads, turns_lead, value_leads, working_r10}
 use Rattle.xl_port.proofs.PortRows as port_row
 use Rattle.xl_port.proofs.PortRows.{port_is, port_lasts}
@@ -69,7 +69,7 @@ FitsTimer (Condition PinsDiffer) = ⊥
 FitsTimer (Condition AfterTime) = Unit {0}
 
 pub pins_fit : (time : Option kernel.Expression) (condition : Option kernel.Condition) → AsksForPins condition →
-    FitsPort (wait_for time condition)
+    FitsPort (waits_for time condition)
 pins_fit (Some x) condition h = tt
 pins_fit None None h = tt
 pins_fit None (Some c) (inl e) = subst (λ w. FitsPort (Condition (test_named w))) (sym e) tt
@@ -80,7 +80,7 @@ IsNone None = Unit {0}
 IsNone (Some x) = ⊥
 
 pub time_fits : (time : Option kernel.Expression) (condition : Option kernel.Condition) → time ≡ None → AsksForTime condition →
-    FitsTimer (wait_for time condition)
+    FitsTimer (waits_for time condition)
 time_fits (Some x) condition e h = subst (λ o. IsNone o) (sym e) tt
 time_fits None None e h = tt
 time_fits None (Some c) e h = subst (λ w. FitsTimer (Condition (test_named w))) (sym h) tt
@@ -111,8 +111,8 @@ module _ (home : Home) (relied : ℕ → Bool) (mine : Res → Type 0) (s t : �
   pub timing_leads : (time : Option kernel.Expression) (condition : Option kernel.Condition) →
       TimeEvaluates vars (timing_expression time condition) pc ls →
       TimeIsLaid vars relied s thread.regs.dp old store (timing_expression time condition) →
-      ((v : ℕ) (regs' : Regs) (b : CoreState) → SinceAt (pc + length ls) regs' b → HoldsWord (wait_for time condition) v regs' →
-      LeadsTo (passes (when_of (wait_for time condition) v)) n b) → (a : CoreState) → SinceAt pc regs a →
+      ((v : ℕ) (regs' : Regs) (b : CoreState) → SinceAt (pc + length ls) regs' b → HoldsWord (waits_for time condition) v regs' →
+      LeadsTo (passes (when_of (waits_for time condition) v)) n b) → (a : CoreState) → SinceAt pc regs a →
       LeadsTo (timing store time condition) (8 * time_nodes (timing_expression time condition) + n) a
   timing_leads (Some x) condition ev laid next a h =
       value_leads home relied mine s t thread runs quiet old Has lasts vars store x R10 working_r10 pc regs ls

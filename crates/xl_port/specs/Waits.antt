@@ -28,10 +28,10 @@ abbrev pub test_named : (test : ℕ) → Test
 test_named test = if nat_eq test pinseq_word then PinsEqual else if nat_eq test pinsneq_word then PinsDiffer else AfterTime
 
 -- what a transfer waits for, by its time and its condition
-abbrev pub wait_for : Option kernel.Expression → Option kernel.Condition → Waits
-wait_for (Some time) condition = Time
-wait_for None (Some condition) = Condition (test_named condition.test)
-wait_for None None = AtOnce
+abbrev pub waits_for : Option kernel.Expression → Option kernel.Condition → Waits
+waits_for (Some time) condition = Time
+waits_for None (Some condition) = Condition (test_named condition.test)
+waits_for None None = AtOnce
 
 -- and by the word of that
 
@@ -87,5 +87,5 @@ pub record TakesIn (plan : Plan) (i : kernel.Input) (pc : ℕ) (lines : List Lin
   pub is : lines ≡ timing ++ transfer
   pub evaluates : TimeEvaluates plan.vars (timing_expression i.time i.condition) pc timing
   pub uses : UsesName
-      (resource_in plan.ports plan.timers i.resource) (transfer_instrs (wait_for i.time i.condition) (In R0 R11))
+      (resource_in plan.ports plan.timers i.resource) (transfer_instrs (waits_for i.time i.condition) (In R0 R11))
       i.pos (pc + length timing) transfer

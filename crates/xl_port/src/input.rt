@@ -7,7 +7,7 @@ ghost use Rattle.xl_expr.specs.Targets.{AreAimed};
 ghost use Rattle.xl_port.specs.Inputs.{Inputs, input_depth, input_nodes, waiting_depth, waiting_nodes};
 ghost use Rattle.xl_port.specs.Waits.{TakesIn};
 
-use crate::setting::{emit_timing, emit_transfer, wait_of};
+use crate::setting::{emit_timing, emit_transfer, waits_of};
 use crate::stamp::emit_stamp;
 use xc_kernel::KHead;
 use xl_expr::{Plan, emit_destination};
@@ -55,6 +55,6 @@ pub fn emit_take(e: &mut Emitter, plan: &Plan, h: &KHead) -> Result<(), Memory>
 {
     let own = Instr::In(Reg::R0, Reg::R11);
     emit_timing(e, plan, &h.time, &h.cond)?;
-    emit_transfer(e, plan, h.res, wait_of(&h.time, &h.cond), own, h.pos)?;
+    emit_transfer(e, plan, h.res, waits_of(&h.time, &h.cond), own, h.pos)?;
     Ok(())
 }

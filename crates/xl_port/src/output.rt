@@ -6,7 +6,7 @@ ghost use Rattle.xs_instr.specs.Extends.{Extends};
 ghost use Rattle.xl_expr.specs.Targets.{AreAimed};
 ghost use Rattle.xl_port.specs.Outputs.{DrivesPort, Outputs, driving_depth, driving_nodes, output_depth, output_nodes};
 ghost use Rattle.xl_port.specs.Timings.{time_depth, time_nodes};
-ghost use Rattle.xl_port.specs.Waits.{TimeEvaluates, wait_for};
+ghost use Rattle.xl_port.specs.Waits.{TimeEvaluates, waits_for};
 
 use crate::setting::{Waits, emit_transfer};
 use crate::stamp::emit_stamp;
@@ -54,13 +54,13 @@ fn emit_drive(e: &mut Emitter, plan: &Plan, o: &KOut) -> Result<(), Memory>
     let own = Instr::Out(Reg::R11, Reg::R0);
     emit_time(e, plan, &o.time)?;
     emit_expr(e, plan, &o.value, Reg::R0)?;
-    emit_transfer(e, plan, o.res, wait_of_time(&o.time), own, o.pos)?;
+    emit_transfer(e, plan, o.res, waits_of_time(&o.time), own, o.pos)?;
     Ok(())
 }
 
 /// What an output waits for.
-fn wait_of_time(time: &Option<Kx>) -> Waits
-    ensures { result ≡ wait_for (option_map expression_of time.now) None }
+fn waits_of_time(time: &Option<Kx>) -> Waits
+    ensures { result ≡ waits_for (option_map expression_of time.now) None }
 {
     match time {
         Some(_) => Waits::Time,

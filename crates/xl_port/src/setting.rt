@@ -6,7 +6,7 @@ ghost use Rattle.xs_instr.specs.Extends.{Extends};
 ghost use Rattle.xl_expr.specs.Plans.{resource_in};
 ghost use Rattle.xl_expr.specs.Targets.{AreAimed};
 ghost use Rattle.xl_port.specs.Timings.{time_depth, time_nodes, timing_expression};
-ghost use Rattle.xl_port.specs.Waits.{TimeEvaluates, UsesName, cond_of, test_named, transfer_instrs, wait_for};
+ghost use Rattle.xl_port.specs.Waits.{TimeEvaluates, UsesName, cond_of, test_named, transfer_instrs, waits_for};
 
 use xc_kernel::{KRes, Kx};
 use xc_tree::words::{PINSEQ_WORD, PINSNEQ_WORD};
@@ -44,8 +44,9 @@ pub fn test_of(word: u8) -> Test
 }
 
 /// What a transfer waits for, by its time and its condition.
-pub fn wait_of(time: &Option<Kx>, cond: &Option<(u8, Kx)>) -> Waits
-    ensures { result ≡ wait_for (option_map expression_of time.now) (option_map condition_of cond.now) }
+pub fn waits_of(time: &Option<Kx>, cond: &Option<(u8, Kx)>) -> Waits
+    ensures { result
+        ≡ waits_for (option_map expression_of time.now) (option_map condition_of cond.now) }
 {
     match time {
         Some(_) => Waits::Time,
@@ -93,18 +94,19 @@ pub fn emit_transfer(
     e: &mut Emitter,
     plan: &Plan,
     res: KRes,
-    wait: Waits,
+    waits: Waits,
     own: Instr,
     pos: Pos,
 ) -> Result<(), Memory>
     requires { length e.old + 5 < 2 ^ 32 }
     ensures size { OnOk result (length e.new ≤ length e.old + 5) }
     ensures adds { OnOk result (Adds e.old e.new (UsesName
-        (resource_in plan.now.ports plan.now.timers res) (transfer_instrs wait own) pos (length e.old))) }
+        (resource_in plan.now.ports plan.now.timers res)
+        (transfer_instrs waits own) pos (length e.old))) }
     ensures refused { OnErr result (Extends e.old e.new) }
 {
     let clearing = Instr::Setc(Reg::R11, Cond::None);
-    match wait {
+    match waits {
         Waits::AtOnce => emit_with_name(e, plan, res, &[clearing, own], pos),
         Waits::Time => {
             let timing = Instr::Setpt(Reg::R11, Reg::R10);

@@ -1,5 +1,4 @@
-use Rattle.std.proofs.Common.{ℕ, ◌+◌, ◌∙◌, ◌++◌, ap, append_assoc, arith, length, length-append, refl, subst}
-use Rattle.xs_instr.specs.Lines.{Line}
+use Rattle.std.proofs.Common.{◌∙◌, ◌++◌, ap, append_assoc, arith, length, length-append, refl, subst}
 use Rattle.xc_kernel.specs.Kernels.{input_of}
 use Rattle.xl_expr.specs.Destinations.{WritesTo}
 use Rattle.xl_port.specs.Inputs.{Inputs}

@@ -16,7 +16,7 @@ returns-clause-drives c =
     let o = output_of c.args.o.now in
     let here = length c.args.e.now in
     let place = resource_in plan.ports plan.timers o.resource in
-    let instrs = transfer_instrs c.wait_of_time.result (Out R11 R0) in
+    let instrs = transfer_instrs c.waits_of_time.result (Out R11 R0) in
     let sent =
     added_behind c.emit_time.new.e c.emit_expr.new.e c.emit_transfer.new.e (Evaluates plan.vars o.value R0 (length c.emit_time.new.e))
     (ValueSent plan o (length c.emit_time.new.e)) (UsesName place instrs o.pos)
@@ -27,7 +27,7 @@ returns-clause-drives c =
       is = refl;
       evaluates = p;
       uses = subst (λ waits. UsesName place (transfer_instrs waits (Out R11 R0)) o.pos (length c.emit_time.new.e + length ls) ms)
-          c.wait_of_time.ensures q;
+          c.waits_of_time.ensures q;
     }) in
     added_behind c.args.e.now c.emit_time.new.e c.emit_transfer.new.e (TimeEvaluates plan.vars o.time here) (DrivesPort plan o here)
     (ValueSent plan o)
@@ -38,7 +38,7 @@ pub returns-clause-aimed : goal.returns-clause-aimed
 returns-clause-aimed c =
     let plan = c.args.plan.now in
     let o = output_of c.args.o.now in
-    let waits = c.wait_of_time.result in
+    let waits = c.waits_of_time.result in
     aimed_behind c.args.e.now c.emit_time.new.e c.emit_transfer.new.e c.in_ok-emit_time.ensures.aimed
     (aimed_behind c.emit_time.new.e c.emit_expr.new.e c.emit_transfer.new.e c.in_ok-emit_expr.ensures.aimed
     (adds_aimed (transfer_instrs waits (Out R11 R0)) (transfer_plain waits (Out R11 R0) (λ size n. tt)) o.pos c.emit_expr.new.e

@@ -1,4 +1,4 @@
-use Rattle.std.proofs.Common.{ℕ, ◌+◌, ◌≤◌, ◌++◌, ◌∙◌, Option, ap, arith, length, length-append, append_assoc, refl, subst, sym}
+use Rattle.std.proofs.Common.{◌++◌, ◌∙◌, Option, ap, arith, length, length-append, append_assoc, refl, subst, sym}
 use Rattle.xs_instr.specs.Adds.{Adds}
 use Rattle.xs_instr.specs.Lines.{at_pos}
 use Rattle.xl_expr.specs.Identifiers.{Identifies}

@@ -1,4 +1,4 @@
-use Rattle.std.proofs.Common.{◌+◌, [], ◌∷◌, length}
+use Rattle.std.proofs.Common.{[], ◌∷◌, length}
 use Rattle.xs_instr.specs.declared.instr.Instr.TheVariants.{Getts}
 use Rattle.xs_instr.specs.declared.instr.Reg.TheVariants.{R0, R11}
 use Rattle.xc_kernel.specs.Kernels.{place_of}

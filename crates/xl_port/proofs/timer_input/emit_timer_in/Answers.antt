@@ -1,4 +1,4 @@
-use Rattle.std.proofs.Common.{◌+◌, length, refl}
+use Rattle.std.proofs.Common.{length, refl}
 use Rattle.xc_kernel.specs.Kernels.{input_of}
 use Rattle.xl_expr.specs.Destinations.{WritesTo}
 use Rattle.xl_port.specs.TimerInputs.{TimerInputs}
