@@ -129,7 +129,7 @@ module _ (plan : Plan) (o : kernel.Output) (home : Home) (relied : ℕ → Bool)
       (λ kind pos c f. f) a first time_evaluates (stand_front home.parts.code pc fs (ls ++ ms) st) time_laid)
 
 -- the value, and the transfer behind it
-pub record ValueSent (plan : Plan) (o : kernel.Output) (pc : ℕ) (lines : List Line) : Type 0 where
+pub record DrivesValue (plan : Plan) (o : kernel.Output) (pc : ℕ) (lines : List Line) : Type 0 where
   pub value : List Line
   pub transfer : List Line
   pub is : lines ≡ value ++ transfer
@@ -140,7 +140,7 @@ pub record ValueSent (plan : Plan) (o : kernel.Output) (pc : ℕ) (lines : List 
 
 -- the clause of the transfer, from those of the parts
 pub drives_by_parts : (plan : Plan) (o : kernel.Output) (pc : ℕ) (fs xs : List Line) → TimeEvaluates plan.vars o.time pc fs →
-    ValueSent plan o (pc + length fs) xs → DrivesPort plan o pc (fs ++ xs)
+    DrivesValue plan o (pc + length fs) xs → DrivesPort plan o pc (fs ++ xs)
 drives_by_parts plan o pc fs xs time sent = record {
   by = λ home relied s t p port thread store a st at_work room time_laid laid stands sends.
       let ls = sent.value in

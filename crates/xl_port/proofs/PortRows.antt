@@ -22,7 +22,7 @@ use Rattle.xl_expr.specs.ResourceParts.{port_alone}
 use Rattle.xl_expr.proofs.Lists.{get_set_other, get_set_same}
 use Rattle.xl_expr.proofs.ResourceParts.{others_of_port, others_same, port_same}
 use Rattle.xl_expr.proofs.Ways.{at_pc}
-use Rattle.xl_port.proofs.Since.{Lasts, Turns, other_r0, stepped}
+use Rattle.xl_port.proofs.Since.{Lasts, Turns, other_r0, behind_step}
 
 -- port p is so
 abbrev pub port_is : (p : ℕ) → Port → CoreState → Type 0
@@ -53,7 +53,7 @@ module _ (home : Home) (relied : ℕ → Bool) (s t p : ℕ) (thread : Thread) (
     no_event = no_event;
     left = λ r w. refl;
     row_is = row_is;
-    others = λ c. others_of_port t p c (stepped c t th (pc + 1) regs (slice_set c.ports p port') c.timers)
+    others = λ c. others_of_port t p c (behind_step c t th (pc + 1) regs (slice_set c.ports p port') c.timers)
         (λ q ne. get_set_other c.ports p q port' ne) refl refl;
     after = λ c h. get_set_same c.ports p port port' h;
   }
@@ -92,7 +92,7 @@ module _ (home : Home) (relied : ℕ → Bool) (s t p : ℕ) (thread : Thread) (
         ap (λ n. told (gets_with put_ports c t th R0) (on_port c (port_stamp c.ports) (named home.number n))) r11_is
         ∙ ap (λ x. told (gets_with put_ports c t th R0) (on_port c (port_stamp c.ports) x)) names
         ∙ ap (λ x. told (gets_with put_ports c t th R0) (usable (port_stamp c.ports p) x)) there;
-    others = λ c. others_same (port_alone p) t c (stepped c t th (pc + 1) (reg_set regs R0 port.stamp) c.ports c.timers) refl refl refl;
+    others = λ c. others_same (port_alone p) t c (behind_step c t th (pc + 1) (reg_set regs R0 port.stamp) c.ports c.timers) refl refl refl;
     after = λ c h. h;
   }
 

@@ -129,7 +129,7 @@ samples_by_parts plan i pc lines takes = record {
 }
 
 -- the transfer, and what writes its value
-pub record TakenTo (plan : Plan) (i : kernel.Input) (pc : ℕ) (lines : List Line) : Type 0 where
+pub record SamplesTo (plan : Plan) (i : kernel.Input) (pc : ℕ) (lines : List Line) : Type 0 where
   pub transfer : List Line
   pub write : List Line
   pub is : lines ≡ transfer ++ write

@@ -112,8 +112,8 @@ beside home relied leaves mine t Has Q lasts (suc n) a e (inr h) = inr (λ b k.
     (x.0, own_is_parts_step home leaves mine t b x.0 x.1, beside home relied leaves mine t Has Q lasts n x.0 there x.2))
 
 -- the core behind a step that changes registers, ports and timers
-abbrev pub stepped : CoreState → (t : ℕ) → Thread → (pc : ℕ) → Regs → List Port → List Timer → CoreState
-stepped c t thread pc regs ports timers = record (put_own c t thread (own pc regs c.words))
+abbrev pub behind_step : CoreState → (t : ℕ) → Thread → (pc : ℕ) → Regs → List Port → List Timer → CoreState
+behind_step c t thread pc regs ports timers = record (put_own c t thread (own pc regs c.words))
     { ports = ports; timers = timers; events = c.events }
 
 module _ (home : Home) (relied : ℕ → Bool) (mine : Res → Type 0) (s t : ℕ) (thread : Thread) (runs : thread.mode ≡ Running)
@@ -165,9 +165,9 @@ module _ (home : Home) (relied : ℕ → Bool) (mine : Res → Type 0) (s t : �
     pub no_event : is_waiteu (Some i) ≡ false
     pub left : (r : Reg) → is_working r ≡ false → reg_get regs' r ≡ reg_get regs r
     pub row_is : (c : CoreState) → Has c → row home c t (at_pc thread pc regs) i ≡ makes
-        (stepped c t (at_pc thread pc regs) (pc + 1) regs' (ports c) (timers c))
-    pub others : (c : CoreState) → OtherPartsStay mine t c (stepped c t (at_pc thread pc regs) (pc + 1) regs' (ports c) (timers c))
-    pub after : (c : CoreState) → Has c → Then (stepped c t (at_pc thread pc regs) (pc + 1) regs' (ports c) (timers c))
+        (behind_step c t (at_pc thread pc regs) (pc + 1) regs' (ports c) (timers c))
+    pub others : (c : CoreState) → OtherPartsStay mine t c (behind_step c t (at_pc thread pc regs) (pc + 1) regs' (ports c) (timers c))
+    pub after : (c : CoreState) → Has c → Then (behind_step c t (at_pc thread pc regs) (pc + 1) regs' (ports c) (timers c))
 
   pub turns_lead : (Has Then : CoreState → Type 0) (pc : ℕ) (regs regs' : Regs) (i : Instr) → Lasts relied mine t Has →
       Turns Has Then pc regs regs' i → slice_get home.parts.code.instrs pc ≡ Some i → (Q : CoreState → Type 0) (n : ℕ) →
@@ -175,7 +175,7 @@ module _ (home : Home) (relied : ℕ → Bool) (mine : Res → Type 0) (s t : �
   turns_lead Has Then pc regs regs' i lasts turns stands Q n next a h = inr (λ b k.
       let sb = since_kept Has lasts pc regs a b h k in
       let th = at_pc thread pc regs in
-      let d = stepped b t th (pc + 1) regs' (turns.ports b) (turns.timers b) in (
+      let d = behind_step b t th (pc + 1) regs' (turns.ports b) (turns.timers b) in (
         d,
         record {
           thread = th;

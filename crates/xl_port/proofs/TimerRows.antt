@@ -21,7 +21,7 @@ use Rattle.xl_expr.specs.ResourceParts.{timer_alone}
 use Rattle.xl_expr.proofs.Lists.{get_set_other, get_set_same}
 use Rattle.xl_expr.proofs.ResourceParts.{others_of_timer, timer_same}
 use Rattle.xl_expr.proofs.Ways.{at_pc}
-use Rattle.xl_port.proofs.Since.{Lasts, Turns, stepped}
+use Rattle.xl_port.proofs.Since.{Lasts, Turns, behind_step}
 
 -- timer n is so
 abbrev pub timer_is : (n : ℕ) → Timer → CoreState → Type 0
@@ -52,7 +52,7 @@ module _ (home : Home) (relied : ℕ → Bool) (s t n : ℕ) (thread : Thread) (
     no_event = no_event;
     left = λ r w. refl;
     row_is = row_is;
-    others = λ c. others_of_timer t n c (stepped c t th (pc + 1) regs c.ports (slice_set c.timers n timer'))
+    others = λ c. others_of_timer t n c (behind_step c t th (pc + 1) regs c.ports (slice_set c.timers n timer'))
         (λ m ne. get_set_other c.timers n m timer' ne) refl refl;
     after = λ c h. get_set_same c.timers n timer timer' h;
   }

@@ -113,7 +113,7 @@ pub fn emit_transfer(
             emit_with_name(e, plan, res, &[clearing, timing, own], pos)
         }
         Waits::Condition(test) => {
-            let asking = Instr::Setc(Reg::R11, asked(test));
+            let asking = Instr::Setc(Reg::R11, cond_of_test(test));
             let comparing = Instr::Setd(Reg::R11, Reg::R10);
             emit_with_name(e, plan, res, &[asking, comparing, own], pos)
         }
@@ -121,7 +121,7 @@ pub fn emit_transfer(
 }
 
 /// The machine's condition of a test.
-fn asked(test: Test) -> Cond
+fn cond_of_test(test: Test) -> Cond
     ensures { result ≡ cond_of test }
 {
     match test {

@@ -35,15 +35,15 @@ module _ {A B : Type 0} (r : Result A B) (plan : Plan) (sides : Sides) (old new 
       (λ last pc cells h. subst (λ (resource : KRes). OutputEmits plan sides o resource last pc cells) (sym channel)
       (subst (λ (e : Option ℕ). ByEnd (λ n. SendsValue plan n o.value true o.pos) e last pc cells) (sym at_end) h))
 
-  pub sampled : (i : kernel.Input) (p : ℕ) → i.resource ≡ Port p → OnOk r (Adds old new (Inputs plan i (length old))) →
+  pub port_in_emitted : (i : kernel.Input) (p : ℕ) → i.resource ≡ Port p → OnOk r (Adds old new (Inputs plan i (length old))) →
       OnOk r (Adds old new (AreAimed (length old))) → OnOk r (Emitted (Emits plan sides (kernel.input i)) old new [] [])
-  sampled i p port =
+  port_in_emitted i p port =
       piece_is r (Inputs plan i) (Emits plan sides (kernel.input i)) old new
       (λ last pc cells h. subst (λ (resource : KRes). InputEmits plan sides i resource last pc cells) (sym port) h)
 
-  pub clock_read : (i : kernel.Input) (n : ℕ) → i.resource ≡ Timer n → OnOk r (Adds old new (TimerInputs plan i (length old))) →
+  pub timer_in_emitted : (i : kernel.Input) (n : ℕ) → i.resource ≡ Timer n → OnOk r (Adds old new (TimerInputs plan i (length old))) →
       OnOk r (Adds old new (AreAimed (length old))) → OnOk r (Emitted (Emits plan sides (kernel.input i)) old new [] [])
-  clock_read i n timer =
+  timer_in_emitted i n timer =
       piece_is r (TimerInputs plan i) (Emits plan sides (kernel.input i)) old new
       (λ last pc cells h. subst (λ (resource : KRes). InputEmits plan sides i resource last pc cells) (sym timer) h)
 

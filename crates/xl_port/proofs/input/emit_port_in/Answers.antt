@@ -5,7 +5,7 @@ use Rattle.xl_port.specs.Inputs.{Inputs}
 use Rattle.xl_port.specs.Stamps.{StampsTo}
 use Rattle.xl_port.specs.Waits.{TakesIn}
 use Rattle.xl_port.proofs.Joined.{added_behind, aimed_behind}
-use Rattle.xl_port.proofs.Sampling.{TakenTo, samples_by_parts}
+use Rattle.xl_port.proofs.Sampling.{SamplesTo, samples_by_parts}
 use Rattle.xl_port.proofs.input.emit_port_in.Goals as goal
 
 pub returns-clause-inputs : goal.returns-clause-inputs
@@ -15,10 +15,10 @@ returns-clause-inputs c =
     let old = c.args.e.now in
     let here = length old in
     let taken =
-    added_behind old c.emit_take.new.e c.emit_destination.new.e (TakesIn plan i here) (TakenTo plan i here) (WritesTo plan.vars i.target)
+    added_behind old c.emit_take.new.e c.emit_destination.new.e (TakesIn plan i here) (SamplesTo plan i here) (WritesTo plan.vars i.target)
     c.in_ok-emit_take.ensures.takes c.in_ok-emit_destination.ensures.writes
     (λ ls ms p q. record { transfer = ls; write = ms; is = refl; samples = samples_by_parts plan i here ls p; writes = q }) in
-    added_behind old c.emit_destination.new.e c.emit_stamp.new.e (TakenTo plan i here) (Inputs plan i here)
+    added_behind old c.emit_destination.new.e c.emit_stamp.new.e (SamplesTo plan i here) (Inputs plan i here)
     (StampsTo plan i.resource i.stamp)
     taken c.in_ok-emit_stamp.ensures.stamps
     (λ xs ss p q. record {

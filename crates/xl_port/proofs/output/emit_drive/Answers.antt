@@ -6,7 +6,7 @@ use Rattle.xl_expr.specs.Plans.{resource_in}
 use Rattle.xl_expr.specs.Works.{Evaluates}
 use Rattle.xl_port.specs.Outputs.{DrivesPort}
 use Rattle.xl_port.specs.Waits.{TimeEvaluates, UsesName, transfer_instrs}
-use Rattle.xl_port.proofs.Driving.{ValueSent, drives_by_parts}
+use Rattle.xl_port.proofs.Driving.{DrivesValue, drives_by_parts}
 use Rattle.xl_port.proofs.Joined.{added_behind, adds_aimed, aimed_behind, transfer_plain}
 use Rattle.xl_port.proofs.output.emit_drive.Goals as goal
 
@@ -19,7 +19,7 @@ returns-clause-drives c =
     let instrs = transfer_instrs c.waits_of_time.result (Out R11 R0) in
     let sent =
     added_behind c.emit_time.new.e c.emit_expr.new.e c.emit_transfer.new.e (Evaluates plan.vars o.value R0 (length c.emit_time.new.e))
-    (ValueSent plan o (length c.emit_time.new.e)) (UsesName place instrs o.pos)
+    (DrivesValue plan o (length c.emit_time.new.e)) (UsesName place instrs o.pos)
     c.in_ok-emit_expr.ensures.evaluates c.in_ok-emit_transfer.ensures.adds
     (λ ls ms p q. record {
       value = ls;
@@ -30,7 +30,7 @@ returns-clause-drives c =
           c.waits_of_time.ensures q;
     }) in
     added_behind c.args.e.now c.emit_time.new.e c.emit_transfer.new.e (TimeEvaluates plan.vars o.time here) (DrivesPort plan o here)
-    (ValueSent plan o)
+    (DrivesValue plan o)
     c.in_ok-emit_time.ensures.adds sent
     (λ fs xs p q. drives_by_parts plan o here fs xs p q)
 

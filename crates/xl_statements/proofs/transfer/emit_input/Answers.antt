@@ -3,7 +3,7 @@ use Rattle.xc_kernel.specs.Kernels.{input_of}
 use Rattle.xl_expr.specs.declared.plan.EndPlaces.{EndPlaces}
 use Rattle.xl_ends.specs.Ends.{end_at}
 use Rattle.xl_ends.specs.Sides.{sides_of}
-use Rattle.xl_statements.proofs.Transferred.{clock_read, received, sampled}
+use Rattle.xl_statements.proofs.Transferred.{timer_in_emitted, received, port_in_emitted}
 use Rattle.xl_statements.proofs.transfer.emit_input.Goals as goal
 
 pub returns-in-Some-clause-code : goal.returns-in-Some-clause-code
@@ -14,10 +14,10 @@ returns-in-Some-clause-code c =
 
 pub returns-in-Port-clause-code : goal.returns-in-Port-clause-code
 returns-in-Port-clause-code c =
-    sampled c.emit_port_in.result c.args.plan.now (sides_of c.args.sides.now) c.args.e.now c.emit_port_in.new.e (input_of c.args.input.now)
+    port_in_emitted c.emit_port_in.result c.args.plan.now (sides_of c.args.sides.now) c.args.e.now c.emit_port_in.new.e (input_of c.args.input.now)
     c.in-Port.field-0 c.in-Port.is c.emit_port_in.ensures.inputs c.emit_port_in.ensures.aimed
 
 pub returns-in-Timer-clause-code : goal.returns-in-Timer-clause-code
 returns-in-Timer-clause-code c =
-    clock_read c.emit_timer_in.result c.args.plan.now (sides_of c.args.sides.now) c.args.e.now c.emit_timer_in.new.e
+    timer_in_emitted c.emit_timer_in.result c.args.plan.now (sides_of c.args.sides.now) c.args.e.now c.emit_timer_in.new.e
     (input_of c.args.input.now) c.in-Timer.field-0 c.in-Timer.is c.emit_timer_in.ensures.timer_inputs c.emit_timer_in.ensures.aimed
