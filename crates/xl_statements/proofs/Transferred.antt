@@ -1,5 +1,5 @@
 -- A transfer's code, by its resource and its end.
-use Rattle.std.proofs.Common.{◌≡◌, ℕ, true, List, [], length, Option, Some, None, Result, Ok, Err, OnOk, sym, subst}
+use Rattle.std.proofs.Common.{◌≡◌, ℕ, true, List, [], length, Option, Some, Result, Ok, Err, OnOk, sym, subst}
 use Rattle.xw_words.specs.declared.pos.Pos.{Pos}
 use Rattle.xc_kernel.specs.declared.statement.KRes.{KRes}
 use Rattle.xc_kernel.specs.declared.statement.KRes.TheVariants.{Port, Timer, Chan}

@@ -1,7 +1,7 @@
 // Steps of code as the cases write them: assignments, variables that become 0, outputs, tests and jumps.
 
 ghost use Rattle.std.specs.Bool.{OnTrue};
-ghost use Rattle.std.specs.Prelude.{◌≡◌, ◌≤◌, length, IfOk, OnOk};
+ghost use Rattle.std.specs.Prelude.{◌≤◌, length, IfOk, OnOk};
 ghost use Rattle.xc_kernel.specs.Kernels.{expression_of, output_of as plain_output, place_of};
 ghost use Rattle.xl_expr.specs.Measures.{depth, depth_at, nodes, nodes_at};
 ghost use Rattle.xl_expr.specs.Plans.{var_in};
