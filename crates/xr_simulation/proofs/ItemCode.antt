@@ -13,7 +13,9 @@ pub mod OnEnds
 pub mod Outputs
 pub mod ChannelOutputs
 pub mod ChannelInputs
+pub mod OnResources
 pub mod Stores
+pub mod Stamps
 pub mod Par
 pub mod ParOpens
 pub mod ParCloses

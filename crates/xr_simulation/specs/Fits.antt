@@ -1,8 +1,10 @@
 -- What code needs of the runner whose branch has it to do: that it uses and changes what is in the runner's footprint, and counts no more than
 -- the bound on steps allows.
 use Rattle.std.specs.Prelude.{◌≡◌, ℕ, ◌<◌, ◌≤◌, true, List, [], ◌∷◌, Option, Some, None}
-use Rattle.xs_instr.specs.Ports.{can_send}
+use Rattle.xs_instr.specs.Ports.{can_receive, can_send}
+use Rattle.xc_kernel.specs.Conditions.{AsksForPins, AsksForTime}
 use Rattle.xc_kernel.specs.declared.kernel.PortUse.{PortUse}
+use Rattle.xc_kernel.specs.declared.kernel.Timer.{Timer as TimerUse}
 use Rattle.xc_kernel.specs.declared.statement.KRes.{KRes}
 use Rattle.xc_kernel.specs.declared.statement.KRes.TheVariants.{Port, Timer, Chan}
 use Rattle.xc_kernel.specs.Plain as kernel
@@ -12,7 +14,7 @@ use Rattle.xl_expr.specs.declared.plan.VarPlan.{VarPlan}
 use Rattle.xl_expr.specs.Frames.{HasVars, HasPlace, variable_of}
 use Rattle.xl_expr.specs.Plans.{var_in}
 use Rattle.xl_image.specs.Images.{dir_of}
-use Rattle.xr_simulation.specs.Runners.{Setting, Runner, IsChannel, IsPort, anyone, places, plan}
+use Rattle.xr_simulation.specs.Runners.{Setting, Runner, IsChannel, IsPort, IsTimer, anyone, places, plan}
 
 module _ (g : Setting) (r : Runner) where
   -- no statement of the program counts more
@@ -32,6 +34,10 @@ module _ (g : Setting) (r : Runner) where
   abbrev pub UsesSome : Option kernel.Expression → Type 0
   UsesSome None = Unit {0}
   UsesSome (Some x) = Uses x
+
+  abbrev pub UsesCondition : Option kernel.Condition → Type 0
+  UsesCondition None = Unit {0}
+  UsesCondition (Some condition) = Uses condition.value
 
   -- a variable that the runner may change, with some words, of which the plan has as many as the program
   pub record IsChanged (v : ℕ) : Type 0 where
@@ -58,19 +64,41 @@ module _ (g : Setting) (r : Runner) where
   PutsOutAt (Timer t) = Unit {0}
   PutsOutAt (Chan c) = IsChannel g r c
 
+  -- a port from which it may take words in
+  pub record IsInPort (p : ℕ) : Type 0 where
+    pub listed : PortUse
+    pub is : IsPort g r p listed
+    pub receives : can_receive (dir_of listed.dir) ≡ true
+
+  -- a timer that it may read
+  pub record IsReadTimer (t : ℕ) : Type 0 where
+    pub listed : TimerUse
+    pub is : IsTimer g r t listed
+
   abbrev pub TakesInAt : KRes → Type 0
-  TakesInAt (Port p) = Unit {0}
-  TakesInAt (Timer t) = Unit {0}
+  TakesInAt (Port p) = IsInPort p
+  TakesInAt (Timer t) = IsReadTimer t
   TakesInAt (Chan c) = IsChannel g r c
+
+  -- what is asked of a port are its pins, and of a timer a time of its clock; a timer has no counter to wait for
+  abbrev pub AsksRightly : KRes → Option kernel.Expression → Option kernel.Condition → Type 0
+  AsksRightly (Port p) time condition = AsksForPins condition
+  AsksRightly (Timer t) time condition = (time ≡ None) × AsksForTime condition
+  AsksRightly (Chan c) time condition = Unit {0}
 
   pub record OutputFits (o : kernel.Output) : Type 0 where
     pub time : UsesSome o.time
     pub value : Uses o.value
+    pub stamp : ChangesAt o.stamp
     pub to : PutsOutAt o.resource
 
   pub record InputFits (i : kernel.Input) : Type 0 where
+    pub time : UsesSome i.time
+    pub condition : UsesCondition i.condition
     pub target : ChangesAt i.target
+    pub stamp : ChangesAt i.stamp
     pub from : TakesInAt i.resource
+    pub asks : AsksRightly i.resource i.time i.condition
 
   -- an exit needs nothing, and of what isn't built nothing is said
   abbrev mutual

@@ -6,7 +6,7 @@ use Rattle.xs_instr.specs.declared.image.Image.{Image}
 use Rattle.xs_instr.specs.declared.image.Stim.{Stim}
 use Rattle.xs_instr.specs.Machine.{home_of}
 use Rattle.xs_instr.specs.OwnSteps.{temporary}
-use Rattle.xs_instr.specs.Resources.{AnEnd, APort, named}
+use Rattle.xs_instr.specs.Resources.{AnEnd, APort, ATimer, named}
 use Rattle.xs_instr.specs.declared.state.Res.TheVariants.{End as ResEnd, Port as ResPort, Timer as ResTimer}
 use Rattle.xs_instr.specs.declared.state.Res.{Res}
 use Rattle.xc_kernel.specs.declared.kernel.PortUse.{PortUse}
@@ -19,7 +19,7 @@ use Rattle.xl_expr.specs.declared.plan.VarAt.TheVariants.{Near, Far, Through}
 use Rattle.xl_expr.specs.declared.plan.VarPlan.{VarPlan}
 use Rattle.xl_expr.specs.Frames.{Frame, Holds, IsNear}
 use Rattle.xl_expr.specs.Plans.{end_in, resource_at, var_in}
-use Rattle.xl_plan.specs.Layout.{core_of, end_name, end_number, is_used_on, port_name, port_number, timer_number}
+use Rattle.xl_plan.specs.Layout.{core_of, end_name, end_number, is_used_on, port_name, port_number, timer_name, timer_number}
 use Rattle.xc_kernel.specs.Things.{channel, timer, variable, change, port}
 use Rattle.xc_kernel.specs.declared.kernel.Timer.{Timer}
 use Rattle.xc_meaning.specs.States.Channels.{Side}
@@ -227,7 +227,8 @@ module _ (g : Setting) (r : Runner) where
   IsMine (ResEnd n) = IsOwnEnd n
 
   -- Its block is the outermost, the variables of its core stand near, no two of them share a word, and none is a temporary one of
-  -- the runner's. Its ports and its channels' ends have the identifiers that the plan gives them.
+  -- the runner's. Its ports, its timers and its channels' ends have the identifiers that the plan gives them, and the timers are among
+  -- those of the core.
   pub record IsLaidOut : Type 0 where
     pub block : r.block ≡ outside
     pub frame : Frame (places g r.core) relied r.footprint.uses r.stack 0
@@ -236,4 +237,9 @@ module _ (g : Setting) (r : Runner) where
     pub identifiers : (p : ℕ) (listed : PortUse) → IsPort p listed →
         resource_at plan.ports p ≡ Some (Fixed (port_name r.core (port_place p)))
     pub names : (p : ℕ) (listed : PortUse) → IsPort p listed → named home.number (port_name r.core (port_place p)) ≡ APort (port_place p)
+    pub timer_identifiers : (t : ℕ) (listed : Timer) → IsTimer t listed →
+        resource_at plan.timers t ≡ Some (Fixed (timer_name r.core (timer_place t)))
+    pub timer_names : (t : ℕ) (listed : Timer) → IsTimer t listed →
+        named home.number (timer_name r.core (timer_place t)) ≡ ATimer (timer_place t)
+    pub timers : (t : ℕ) (listed : Timer) → IsTimer t listed → timer_place t < home.parts.timers
     pub ends : (c : ℕ) (side : Side) → IsChannel c → EndIsPlanned c side

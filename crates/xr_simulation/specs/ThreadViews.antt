@@ -55,6 +55,7 @@ module _ (g : Setting) (r : Runner) where
     pub thread : slice_get y.core.threads r.thread ≡ slice_get z.core.threads r.thread
     pub words : (w : ℕ) → relied g r w ≡ true → slice_get y.core.words w ≡ slice_get z.core.words w
     pub resources : OwnPartsStay (IsMine g r) r.thread z.core y.core
+    pub sizes : sizes_of y.core ≡ sizes_of z.core
     pub branch : slice_get y.world.branches r.branch ≡ slice_get z.world.branches r.branch
     pub parents : (b : ℕ) → IsAmong (branches_of r.parents) b → slice_get y.world.branches b ≡ slice_get z.world.branches b
     pub store : (v : ℕ) → r.footprint.uses v ≡ true → words_of y.world.store v ≡ words_of z.world.store v

@@ -10,6 +10,7 @@ use Rattle.xs_instr.specs.declared.state.Regs.{Regs}
 use Rattle.xs_instr.specs.declared.state.Res.{Res}
 use Rattle.xs_instr.specs.declared.state.Res.TheVariants.{End as ResEnd, Port as ResPort, Timer as ResTimer}
 use Rattle.xs_instr.specs.declared.state.Thread.{Thread}
+use Rattle.xs_instr.specs.declared.state.Timer.{Timer}
 use Rattle.xs_instr.specs.declared.trace.Record.{Record}
 use Rattle.xs_instr.specs.declared.trace.Record.TheVariants.{Fault}
 use Rattle.xs_instr.specs.declared.trace.Trap.{Trap}
@@ -41,13 +42,15 @@ use Rattle.xl_expr.specs.ResourceParts.{part_of}
 use Rattle.xl_expr.specs.Stores.{Stores}
 use Rattle.xl_ends.specs.Ends.{Sides, codes_in}
 use Rattle.xl_par.specs.Hands.{Hand, IsAmong, empty_hand}
+use Rattle.xl_port.specs.Stamps.{Stamps}
 use Rattle.xl_image.specs.Images.{decl_of}
 use Rattle.xl_plan.specs.Layout.{port_number}
 use Rattle.xr_simulation.specs.Items.{EndAt, ItemsAt}
 use Rattle.xr_simulation.specs.Parents.{Parent, syncs_of}
 use Rattle.xl_statements.specs.Pieces.{Exit, LinesAt, PieceAt}
 use Rattle.xr_simulation.specs.Fits.{Fits, ItemsFit, greatest}
-use Rattle.xr_simulation.specs.Runners.{HoldsPlaces, Block, Setting, Runner, IsLaidOut, IsPort, code, end_place, home, plan, port_place}
+use Rattle.xr_simulation.specs.Runners.{HoldsPlaces, Block, Setting, Runner, IsLaidOut, IsPort, code, end_place, home, plan, port_place, timer_place}
+use Rattle.xr_simulation.specs.Sizes.{sizes_in, sizes_of}
 use Rattle.xr_simulation.specs.Transfers.{Transfer, AwaitsNothing, GoesWith, acts_left, items_behind}
 use Rattle.xr_simulation.specs.ThreadViews.{ThreadView, Rely, Guarantee, LeadsIn, after, giving_back, running, running_so}
 
@@ -225,6 +228,20 @@ module _ (g : Setting) (r : Runner) where
   abbrev pub PortsStand : ThreadView → Type 0
   PortsStand z = (p : ℕ) (listed : PortUse) → IsPort g r p listed → PortIs p listed z
 
+  -- a timer is at its place
+  pub record TimerIs (t : ℕ) (z : ThreadView) : Type 0 where
+    pub timer : Timer
+    pub there : slice_get z.core.timers (timer_place g r t) ≡ Some timer
+
+  -- the core has as many words, timers and watches as its part of the image gives it
+  abbrev pub IsSized : ThreadView → Type 0
+  IsSized z = sizes_of z.core ≡ sizes_in (home g r).parts
+
+  -- port p of the core has this stamp
+  abbrev pub HasStamp : (p stamp : ℕ) → CoreState → Type 0
+  HasStamp p stamp core =
+      (port : Port) × (slice_get core.ports (port_place g r p) ≡ Some port) × (port.stamp ≡ stamp)
+
   -- what stands where the runner's branch ends
   abbrev pub EndOf : (pc j : ℕ) → Type 0
   EndOf pc j = EndAt (plan g r) (code g r) r.tie r.parents pc j
@@ -235,11 +252,15 @@ module _ (g : Setting) (r : Runner) where
 
   -- Where a thread stands between two own steps, at an index with these registers: at the code of its branch's items, with j jumps
   -- between them. A store is what an earlier item left to be done: its word is in r0, and behind its code, with whatever registers,
-  -- stands what comes next, which takes no event, as long as the parts of the core stay on which that stands.
+  -- stands what comes next, which takes no event, as long as the parts of the core stay on which that stands. So is a stamp: its port
+  -- has it, and what comes behind its code stands on no part of the core.
   abbrev pub StandsAt : List Item → (j pc : ℕ) → Regs → CoreState → Type 0
   StandsAt (stores place v ∷ rest) j pc regs core =
       (stored : ℕ) × (regs.r0 ≡ v) × LinesAt (code g r) (Stores (plan g r).vars place R0) pc stored × (is_watching rest ≡ false)
       × ((regs' : Regs) (core' : CoreState) → HasBases regs' → SameParts g r.core rest core core' → StandsAt rest j stored regs' core')
+  StandsAt (stamps (resource.Port p) place v ∷ rest) j pc regs core =
+      (stored : ℕ) × HasStamp p v core × LinesAt (code g r) (Stamps (plan g r) (resource.Port p) place) pc stored
+      × (is_watching rest ≡ false) × ((regs' : Regs) (core' : CoreState) → HasBases regs' → StandsAt rest j stored regs' core')
   StandsAt items j pc regs core = (exits : List Exit) × ItemsFrom items exits pc j
 
   -- the branch has these items, and the core has its words and ports
@@ -538,4 +559,4 @@ module _ (g : Setting) (r : Runner) where
       (rest : List Item) (exits : List Exit) (pc pc' j : ℕ) (z : ThreadView) (regs : Regs) →
       IsLaidOut g r → PieceAt (code g r) (plan g r) r.sides t exits pc pc' → Fits g r t → StandsInSides t →
       ItemsFrom rest exits pc' j → ItemsFit g r rest →
-      Has (does t ∷ rest) z → IsAt z pc regs → HasBases regs → z.hand ≡ first_hand (does t ∷ rest) → Leads cost j z
+      Has (does t ∷ rest) z → IsSized z → IsAt z pc regs → HasBases regs → z.hand ≡ first_hand (does t ∷ rest) → Leads cost j z

@@ -53,6 +53,7 @@ module _ {moment : Moment none_rests} (thread_at : ThreadAt moment None)
   pub effect : Effect g who c t r None (only_thread t) a left x.state x.state
   effect = record {
     clock = (e.guarantee x.state).clock;
+    sizes = (e.guarantee x.state).sizes;
     threads = λ u m. others_there u (not_t u m);
     not_held = λ u s got ne. ne_eqb u t (λ f. got_not_run s (sym got ∙ ap (who c) f ∙ runs_r));
     ties = λ u n thread m there tied.

@@ -3,19 +3,21 @@ use Rattle.std.proofs.Common.{eq-eqb, zero, suc, [], ◌∷◌, ap, ◌≡◌, �
 use Rattle.std.specs.Prelude.{max, nat_eq, ◌&&◌}
 use Rattle.xc_tree.specs.declared.tree.TreeDir.{TreeDir}
 use Rattle.xc_tree.specs.declared.tree.TreeDir.TheVariants.{In, Out, Both}
-use Rattle.xc_tree.specs.Types.Entities.{drives}
-use Rattle.xs_instr.specs.Ports.{can_send}
+use Rattle.xc_tree.specs.Types.Entities.{drives, reads}
+use Rattle.xs_instr.specs.Ports.{can_receive, can_send}
+use Rattle.xc_kernel.specs.Conditions.{AsksForPins, AsksForTime}
 use Rattle.xc_kernel.specs.declared.kernel.PortUse.{PortUse}
 use Rattle.xc_kernel.specs.declared.kernel.Var.{Var}
 use Rattle.xc_kernel.specs.declared.statement.KRes.{KRes}
 use Rattle.xc_kernel.specs.declared.statement.KRes.TheVariants.{Port, Timer, Chan}
 use Rattle.xc_kernel.specs.Plain as kernel
-use Rattle.xc_kernel.specs.Things.{Thing, variable, port, channel, by_read, by_change, by_resource, by_expression, by_operands, by_place, by_target, by_condition, by_some_expression, by_some_target, by_statement, by_statements, by_branches}
+use Rattle.xc_kernel.specs.Things.{Thing, variable, port, timer, channel, by_read, by_change, by_resource, by_expression, by_operands, by_place, by_target, by_condition, by_some_expression, by_some_target, by_statement, by_statements, by_branches}
 use Rattle.xc_meaning.specs.Counts.KernelCounts.{of_statement, greatest_held, greatest_in, greatest_in_branches, words_in}
 use Rattle.xc_meaning.proofs.Basics.{none_given, same_number, or_left, or_right}
 use Rattle.xc_disjoint.specs.Checked.{IsChecked}
-use Rattle.xc_wellformed.specs.Each.{AnyExpression, AnyPlace, AnyNumber, AnyOutput, AnyInput, EachBranch, EachMaybe, EachPlace, EachStatement, EachOf}
+use Rattle.xc_wellformed.specs.Each.{AnyExpression, AnyPlace, AnyNumber, AnyOutput, AnyInput, EachBranch, EachCondition, EachMaybe, EachPlace, EachStatement, EachOf}
 use Rattle.xc_wellformed.specs.Numbers.{IsVariable, IsListed, NumbersInExpression, NumbersInOperands, NumbersInPlace}
+use Rattle.xc_wellformed.specs.Transfers as lawful
 use Rattle.xc_wellformed.specs.Transfers.{GoesOut, ComesIn, InputComes, OutputGoes}
 use Rattle.xl_expr.specs.declared.plan.VarPlan.{VarPlan}
 use Rattle.xl_expr.specs.Frames.{HasVars, HaveVars, HasPlace, variable_of}
@@ -23,8 +25,8 @@ use Rattle.xl_expr.specs.Plans.{var_in}
 use Rattle.xl_image.specs.Images.{dir_of}
 use Rattle.xl_plan.specs.Layout.{is_used_by}
 use Rattle.xl_plan.proofs.Lists.{contained_at, some_given}
-use Rattle.xl_plan.proofs.UsedResources.{port_used}
-use Rattle.xr_simulation.specs.Fits.{ChangesAt, TakesInAt, UsesSome, IsChanged, PutsOutAt, Fits, AllFit, BranchesFit, greatest}
+use Rattle.xl_plan.proofs.UsedResources.{port_used, timer_used}
+use Rattle.xr_simulation.specs.Fits.{AsksRightly, ChangesAt, TakesInAt, UsesCondition, UsesSome, IsChanged, PutsOutAt, Fits, AllFit, BranchesFit, greatest}
 use Rattle.xr_simulation.specs.Runners.{Setting, Runner, IsChannel, anyone, plan}
 
 -- The statements of a root fit its core.
@@ -34,6 +36,26 @@ sends : (d : TreeDir) → drives d ≡ true → can_send (dir_of d) ≡ true
 sends In h = h
 sends Out h = h
 sends Both h = h
+
+-- and one that reads takes inputs
+receives : (d : TreeDir) → reads d ≡ true → can_receive (dir_of d) ≡ true
+receives In h = h
+receives Out h = h
+receives Both h = h
+
+-- What a transfer asks for is the same in the kernel's laws.
+
+pins_asked : (c : Option kernel.Condition) → lawful.AsksForPins c → AsksForPins c
+pins_asked None h = tt
+pins_asked (Some c) h = h
+
+time_asked : (c : Option kernel.Condition) → lawful.AsksForTime c → AsksForTime c
+time_asked None h = tt
+time_asked (Some c) h = h
+
+no_time : (time : Option kernel.Expression) → lawful.IsNothing time → time ≡ None
+no_time None h = refl
+no_time (Some x) h = absurd h
 
 left_within : (a b n : ℕ) → max a b ≤ n → a ≤ n
 left_within a b n h = grind arith
@@ -111,6 +133,12 @@ module _ (g : Setting) (checked : IsChecked g.program) (core : ℕ) (root : kern
     some_fits None h k = tt
     some_fits (Some e) h k = expression_fits e h k
 
+    condition_fits : (c : Option kernel.Condition) →
+        EachCondition (NumbersInExpression V) (NumbersInPlace V) (IsListed g.program.variables) AnyOutput AnyInput AnyNumber c →
+        AreOf (λ th. by_condition th c) → UsesCondition g r c
+    condition_fits None h k = tt
+    condition_fits (Some c) h k = expression_fits c.value h k
+
     dest_fits : (p : Option kernel.Place) → EachPlace (NumbersInExpression V) (NumbersInPlace V) (IsListed g.program.variables) AnyOutput AnyInput AnyNumber p → AreOf (λ th. by_some_target th p) → ChangesAt g r p
     dest_fits None h k = tt
     dest_fits (Some p) h k = target_fits p h k
@@ -123,9 +151,26 @@ module _ (g : Setting) (checked : IsChecked g.program) (core : ℕ) (root : kern
 
     input_fits : (s : KRes) (time : Option kernel.Expression) (condition : Option kernel.Condition) (stamp : Option kernel.Place) →
         InputComes g.program.ports (length g.program.channels) (length g.program.timers) s time condition stamp → AreOf (λ th. by_resource th s) → TakesInAt g r s
-    input_fits (Port p) time condition stamp h k = tt
-    input_fits (Timer t) time condition stamp h k = tt
+    input_fits (Port p) time condition stamp h k =
+        let u = k (port p) (same_number p) in
+        let x = port_used g.program checked root among p u in
+        let same : h.0.port ≡ x.0 = some_given (sym h.0.there ∙ x.1) in
+        record {
+          listed = x.0;
+          is = record { mine = refl; known = x.1; core = x.2 ∙ here };
+          receives = receives x.0.dir (subst (λ (y : PortUse). reads y.dir ≡ true) same h.0.direction);
+        }
+    input_fits (Timer t) time condition stamp h k =
+        let x = timer_used g.program checked root among t (k (timer t) (same_number t)) in
+        record { listed = x.timer; is = record { mine = refl; known = x.there; core = x.place ∙ here } }
     input_fits (Chan c) time condition stamp h k = channel_fits c h.0 (k (channel c) (same_number c))
+
+    asks_fit : (s : KRes) (time : Option kernel.Expression) (condition : Option kernel.Condition) (stamp : Option kernel.Place) →
+        InputComes g.program.ports (length g.program.channels) (length g.program.timers) s time condition stamp →
+        AsksRightly g r s time condition
+    asks_fit (Port p) time condition stamp h = pins_asked condition h.1.1
+    asks_fit (Timer t) time condition stamp h = (no_time time h.1.0, time_asked condition h.1.1.0)
+    asks_fit (Chan c) time condition stamp h = tt
 
     resource_fits : (s : KRes) (time : Option kernel.Expression) (stamp : Option kernel.Place) →
         OutputGoes g.program.ports (length g.program.channels) (length g.program.timers) s time stamp → AreOf (λ th. by_resource th s) → PutsOutAt g r s
@@ -180,12 +225,24 @@ module _ (g : Setting) (checked : IsChecked g.program) (core : ℕ) (root : kern
         record {
           time = some_fits o.time n.1.0 (λ th u. k th (or_right (by_resource th o.resource) _ (or_left (by_some_expression th o.time) _ u)));
           value = expression_fits o.value n.1.1.0 (λ th u. k th (or_right (by_resource th o.resource) _ (or_right (by_some_expression th o.time) _ (or_left (by_expression th o.value) _ u))));
+          stamp = dest_fits o.stamp n.1.1.1 (λ th u. k th
+              (or_right (by_resource th o.resource) _
+              (or_right (by_some_expression th o.time) _ (or_right (by_expression th o.value) _ u))));
           to = resource_fits o.resource o.time o.stamp t.0 (λ th u. k th (or_left (by_resource th o.resource) _ u));
         },
         one,
       )
       statement_fits (kernel.input i) n t k one held = (
         record {
+          time = some_fits i.time n.1.0
+              (λ th u. k th (or_right (by_resource th i.resource) _ (or_left (by_some_expression th i.time) _ u)));
+          condition = condition_fits i.condition n.1.1.0 (λ th u. k th
+              (or_right (by_resource th i.resource) _
+              (or_right (by_some_expression th i.time) _ (or_left (by_condition th i.condition) _ u))));
+          stamp = dest_fits i.stamp n.1.1.1.1 (λ th u. k th
+              (or_right (by_resource th i.resource) _ (or_right (by_some_expression th i.time) _
+              (or_right (by_condition th i.condition) _ (or_right (by_some_target th i.target) _ u)))));
+          asks = asks_fit i.resource i.time i.condition i.stamp t.0;
           target = dest_fits i.target n.1.1.1.0 (λ th u. k th (or_right (by_resource th i.resource) _ (or_right (by_some_expression th i.time) _ (or_right (by_condition th i.condition) _ (or_left (by_some_target th i.target) _ u)))));
           from = input_fits i.resource i.time i.condition i.stamp t.0 (λ th u. k th (or_left (by_resource th i.resource) _ u));
         },

@@ -18,7 +18,8 @@ use Rattle.xl_expr.specs.Frames.{Frame, IsNear}
 use Rattle.xl_expr.specs.Plans.{var_in}
 use Rattle.xl_image.specs.Images.{IsPlan, decl_of}
 use Rattle.xl_image.specs.Roots.{StayOnCores}
-use Rattle.xl_plan.specs.Layout.{first_temporary, temporary_of, word_of, ports_here, core_of_port, identifier_if, named_by, port_name}
+use Rattle.xl_image.proofs.GoodParts.{few_timers}
+use Rattle.xl_plan.specs.Layout.{first_temporary, temporary_of, word_of, ports_here, core_of_port, core_of_timer, identifier_if, named_by, port_name, timer_name}
 use Rattle.xl_plan.specs.Planned.{ports_on}
 use Rattle.xl_plan.proofs.FewPorts.{few_ports}
 use Rattle.xl_plan.proofs.Lists.{some_given, within_all}
@@ -30,7 +31,7 @@ use Rattle.xr_simulation.specs.Runners.{Block, Setting, Runner, IsLaidOut, IsPor
 use Rattle.xr_simulation.proofs.Image.Footprints.{HasAll, words_there}
 use Rattle.xr_simulation.proofs.Image.Ends.{ends_planned}
 use Rattle.xr_simulation.proofs.Image.Plans.{IsImaged}
-use Rattle.xr_simulation.proofs.Image.ResourceNames.{port_named}
+use Rattle.xr_simulation.proofs.Image.ResourceNames.{port_named, timer_named}
 use Rattle.xr_simulation.proofs.Image.Places.{is_there, numbers_differ}
 
 eq_true : (a b : ℕ) → a ≡ b → nat_eq a b ≡ true
@@ -116,6 +117,14 @@ module _ (g : Setting) (checked : IsChecked g.program) (core : ℕ) (is_core : c
       let b = few_ports core g.program.ports (ports_apart g.program core (let z : core ≤ 3 = omega (arith, is_core) in z) checked.of_program) in
       omega (arith, a, b)
 
+  -- and so is a timer's
+  timer_small : (t : ℕ) (x : Timer) → IsTimer g (anyone core) t x → timer_place g (anyone core) t < 2 ^ 16
+  timer_small t x is =
+      let a = timers_are t x is in
+      let b = im.timers in
+      let c = few_timers g.program checked core (let z : core ≤ 3 = omega (arith, is_core) in z) in
+      omega (arith, a, b, c)
+
 -- A runner on its core.
 module _ (g : Setting) (checked : IsChecked g.program) (stay : StayOnCores g.program) (r : Runner) (is_core : r.core < 4) (im : IsImaged g.program r.core (parts_in g.image.cores r.core) (g.plans r.core))
     (inside : r.thread < threads_on g.program r.core) (block : r.block ≡ outside)
@@ -156,6 +165,13 @@ module _ (g : Setting) (checked : IsChecked g.program) (stay : StayOnCores g.pro
         ∙ ap (named_by (port_name r.core) core_of_port r.core g.program.ports p) is.known
         ∙ ap (λ b. identifier_if b (port_name r.core (port_place g r p))) (eq_true x.core r.core is.core);
     names = λ p x is. port_named r.core (port_place g r p) (place_small g checked r.core is_core im p x is.known);
+    timer_identifiers = λ t x is.
+        planned.timers t
+        ∙ ap (named_by (timer_name r.core) core_of_timer r.core g.program.timers t) is.known
+        ∙ ap (λ b. identifier_if b (timer_name r.core (timer_place g r t))) (eq_true x.core r.core is.core);
+    timer_names = λ t x is. timer_named r.core (timer_place g r t)
+        (timer_small g checked r.core is_core im t x (record { mine = refl; known = is.known; core = is.core }));
+    timers = λ t x is. timers_are g checked r.core is_core im t x (record { mine = refl; known = is.known; core = is.core });
     ends = λ c side is. ends_planned g checked stay r is_core planned c side is;
   }
 

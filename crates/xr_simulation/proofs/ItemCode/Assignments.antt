@@ -64,7 +64,7 @@ module _ (g : Setting) (r : Runner) (laid : IsLaidOut g r) where
             store_turns g r laid item place rest pc pc' j uses_place changes
             (or_left (by_target (change (variable_of place)) place) (by_expression (change (variable_of place)) x)
             (target_changed place)) rest_fits (items_unwatched g r rest exits pc' j behind) q
-            (λ regs' core' bases' still. items_stand g r rest exits pc' j regs' core' behind) z y
+            (λ regs' core' bases' still. items_stand g r rest exits pc' j regs' core' behind) any_part z y
             regs v i bases k since' (since'.hand ∙ no_hand) has_q
             (set_step q.world has_q.branch (word v) (still (word v) e)) is_index writes
         by (error kind pos) e traps =
@@ -72,7 +72,8 @@ module _ (g : Setting) (r : Runner) (laid : IsLaidOut g r) where
 
 -- from its code to that instruction, or to the one that traps
 pub set_leads : (g : Setting) (r : Runner) (place : kernel.Place) (x : kernel.Expression) → StatementLeads g r (kernel.set place x)
-set_leads g r place x rest exits pc pc' j z regs laid piece (uses_place, uses, changes, counted) sided behind rest_fits has here bases no_hand =
+set_leads g r place x rest exits pc pc' j z regs laid piece (uses_place, uses, changes, counted) sided behind rest_fits has sized here
+    bases no_hand =
     let v = eval z.world.store x in
     let i = index_in z.world.store place in
     let at_end = pc + length piece.lines in

@@ -119,7 +119,8 @@ take_leads g r i c to_channel used rest exits pc pc' j z regs laid piece fits (s
 -- only channels have inputs whose code is built
 module _ (g : Setting) (r : Runner) where
   pub input_leads : (i : kernel.Input) → StatementLeads g r (kernel.input i)
-  input_leads i rest exits pc pc' j z regs laid piece (fits, counted) sided behind rest_fits has here bases no_hand = from i.resource refl piece fits.from sided
+  input_leads i rest exits pc pc' j z regs laid piece (fits, counted) sided behind rest_fits has sized here bases no_hand =
+      from i.resource refl piece fits.from sided
     where
       from : (res : KRes) → i.resource ≡ res → InputAt (code g r) (plan g r) r.sides i res pc pc' → TakesInAt g r res → IsOnSide g r res → Leads g r (cost g r) j z
       from (Port p) e h used on = absurd h

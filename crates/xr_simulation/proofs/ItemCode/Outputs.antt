@@ -414,7 +414,7 @@ module _ (g : Setting) (r : Runner) (laid : IsLaidOut g r) (o : kernel.Output) (
 -- From the code of an output the thread comes to the instruction that puts the word out, or to the first step of the protocol.
 module _ (g : Setting) (r : Runner) where
   pub output_leads : (o : kernel.Output) → StatementLeads g r (kernel.output o)
-  output_leads o rest exits pc pc' j z regs laid piece (fits, counted) sided behind fit_rest has here bases no_hand = to o.resource refl piece fits.to sided
+  output_leads o rest exits pc pc' j z regs laid piece (fits, counted) sided behind fit_rest has sized here bases no_hand = to o.resource refl piece fits.to sided
     where
       most : ℕ
       most = 8 * output_nodes o + 4

@@ -140,5 +140,5 @@ pub par_leads : (g : Setting) (r : Runner) → r.core < 4 → (bs : kernel.Branc
 par_leads g r core kernel.no_branch several = absurd several
 par_leads g r core (kernel.more_branches b kernel.no_branch) several = absurd several
 par_leads g r core (kernel.more_branches (kernel.branch ss pos) (kernel.more_branches b bs)) several =
-    λ rest exits pc pc' j z regs laid piece fits sided behind rest_fits has here bases is.
+    λ rest exits pc pc' j z regs laid piece fits sided behind rest_fits has sized here bases is.
     leads_there g r ss pos b bs rest exits pc pc' j piece fits behind rest_fits z regs bases core has here is

@@ -45,7 +45,7 @@ stored_leads g r laid place v rest j index regs z bases (stored, is, code, unwat
     let has_q = has_since g r laid (stores place v ∷ rest) z q since (since.room has.holds.room) has in
     let same : SameParts g r.core rest z.core q.core = λ part on. since.parts part (parts_own g r rest part rest_fits on) tt in
     store_turns g r laid (stores place v) place rest index at_end j uses_place changes (target_changed place) rest_fits unwatched q
-    (λ regs' core' bases' still. behind' regs' core' bases' (λ part on. still part on ∙ same part on)) z y regs v i
+    (λ regs' core' bases' still. behind' regs' core' bases' (λ part on. still part on ∙ same part on)) any_part z y regs v i
     bases k since (since.hand ∙ no_hand) has_q
     refl refl (subst (λ w. outcome w y) is h.0))
     (arrives g r (IsApart r.stack) (apart_of_changes g r) (λ b. StoreOutcome (plan g r).vars (home g r) (relied g r) r.stack r.thread (running r.tie index regs) z.core.words place regs.r0 at_end i b) most z (at_runs g r z index regs here) way))

@@ -103,7 +103,8 @@ test_leads g r laid t rest x uses counted held other begins exits pc next target
 module _ (g : Setting) (r : Runner) where
   -- at most one jump leads from the first side past the second
   pub if_leads : (x : kernel.Expression) (a b : kernel.Statements) → StatementLeads g r (kernel.if_then x a b)
-  if_leads x a b rest exits pc pc' j z regs laid (first, second, done, n, test, at_a, jumps, few, at_b) (uses, fits_a, fits_b, counted) sided behind rest_fits has here bases no_hand =
+  if_leads x a b rest exits pc pc' j z regs laid (first, second, done, n, test, at_a, jumps, few, at_b) (uses, fits_a, fits_b, counted)
+      sided behind rest_fits has sized here bases no_hand =
       let at_done = behind_jumps (plan g r) (code g r) r.sides (EndOf g r) rest exits n done pc' j jumps behind in
       let held = pieces_before (plan g r) (code g r) r.sides (EndOf g r) a rest exits first done (n + j) at_a at_done in
       let other = pieces_before (plan g r) (code g r) r.sides (EndOf g r) b rest exits second pc' j at_b behind in
@@ -111,7 +112,8 @@ module _ (g : Setting) (r : Runner) where
 
   -- behind a turn the loop comes again at the same index
   pub loop_leads : (x : kernel.Expression) (a b : kernel.Statements) → StatementLeads g r (kernel.loop x a b)
-  loop_leads x a b rest exits pc pc' j z regs laid (body, next, done, test, at_a, at_b, jumps) (uses, fits_a, fits_b, counted) sided behind rest_fits has here bases no_hand =
+  loop_leads x a b rest exits pc pc' j z regs laid (body, next, done, test, at_a, at_b, jumps) (uses, fits_a, fits_b, counted)
+      sided behind rest_fits has sized here bases no_hand =
       let t = kernel.loop x a b in
       let again : ItemsFrom g r (does t ∷ rest) exits pc j = record { index = pc; here = 0; further = j; jumps = refl; sum = omega arith; stands = (pc', (body, next, done, test, at_a, at_b, jumps), behind) } in
       let again_fits : ItemsFit g r (does t ∷ rest) = ((uses, fits_a, fits_b, counted), rest_fits) in

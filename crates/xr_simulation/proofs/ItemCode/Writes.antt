@@ -5,6 +5,7 @@ use Rattle.std.proofs.lemmas.Bool.{or_left}
 use Rattle.std.proofs.lemmas.List.{length-set, get_or-set_other}
 use Rattle.xw_words.specs.declared.pos.Pos.{Pos}
 use Rattle.xs_instr.specs.declared.state.Regs.{Regs}
+use Rattle.xs_instr.specs.declared.state.Res.{Res}
 use Rattle.xs_instr.specs.Memory.{word_put}
 use Rattle.xs_instr.specs.OwnSteps.{IsApart, temporary}
 use Rattle.xs_instr.specs.declared.state.CoreState.{CoreState}
@@ -28,7 +29,7 @@ use Rattle.xr_simulation.specs.Runners.{HoldsPlaces, Setting, Runner, IsLaidOut,
 use Rattle.xr_simulation.specs.ThreadViews.{ThreadView, Rely, running}
 use Rattle.xr_simulation.specs.Turns as turn
 use Rattle.xr_simulation.specs.Turns.{HasBases, Has, Goes, SameParts, StandsAt, Turn, is_watching}
-use Rattle.xr_simulation.proofs.RelyGuarantee.Arrival.{Since, any_part, core_kept}
+use Rattle.xr_simulation.proofs.RelyGuarantee.Arrival.{Since, core_kept}
 use Rattle.xr_simulation.proofs.Image.Bases.{bases_worked}
 use Rattle.xr_simulation.proofs.ItemCode.Evaluations.{index_still, item_acts, value_errs, with_items}
 use Rattle.xr_simulation.proofs.RelyGuarantee.Variables.{IsPlaced, address_seen, address_since, place_changes, place_holds}
@@ -128,11 +129,11 @@ module _ (g : Setting) (r : Runner) (laid : IsLaidOut g r) (item : Item) (place 
       room = let e = length-set q.core.words (address / 4) v in let h = has.holds.room in omega arith
 
   -- where the code has come the turn is next: it writes the word, or traps by the index's error
-  pub store_turns : (z y : ThreadView) (regs : Regs) (v : ℕ) (i : Value) → HasBases g r regs → Rely g r y q →
-      Since g r (IsApart r.stack) any_part z q → q.hand ≡ None →
+  pub store_turns : (stays : Res → Type 0) (z y : ThreadView) (regs : Regs) (v : ℕ) (i : Value) → HasBases g r regs → Rely g r y q →
+      Since g r (IsApart r.stack) stays z q → q.hand ≡ None →
       (has : Has g r (item ∷ rest) q) → Stores q.world has.branch v → index_in z.world.store place ≡ i →
       StoreOutcome (plan g r).vars (home g r) (relied g r) r.stack r.thread (running r.tie pc regs) z.core.words place v pc' i y.core → Turn g r j q
-  store_turns z y regs v i bases kept since no_hand has is is_index outcome = by i is_index outcome
+  store_turns stays z y regs v i bases kept since no_hand has is is_index outcome = by i is_index outcome
     where
       index_is : (o : Value) → index_in z.world.store place ≡ o → index_in q.world.store place ≡ o
       index_is o e = index_still (plan g r).vars r.footprint.uses z.world.store q.world.store since.store place uses_place ∙ e
@@ -141,7 +142,7 @@ module _ (g : Setting) (r : Runner) (laid : IsLaidOut g r) (item : Item) (place 
       by (word i) f (address, at_address, writes) =
           let w = writes q.core (core_kept g r kept) in
           let there = address_seen g r laid z.core.words regs bases place i address at_address in
-          let at_q = address_since g r laid z q since place i address there in
+          let at_q = address_since g r laid stays z q since place i address there in
           turn.goes_on (write_goes z regs v i address bases no_hand has is (index_is (word i) f) at_q w)
       by (error kind pos) f traps =
           let s = step_of g.program g.stimulus q.world r.branch has.branch rest in

@@ -116,7 +116,7 @@ module _ (g : Setting) (r : Runner) (v : ℕ) (laid : IsLaidOut g r) (is : IsCha
 -- From the code that sets a variable's words to 0 the thread comes to the last store.
 module _ (g : Setting) (r : Runner) where
   pub zero_leads : (v : ℕ) → StatementLeads g r (kernel.set_zero v)
-  zero_leads v rest exits pc pc' j z regs laid code (is, counted) sided behind fits has here bases no_hand =
+  zero_leads v rest exits pc pc' j z regs laid code (is, counted) sided behind fits has sized here bases no_hand =
       leads_more g r (Turns g r j) (2 * (k + 1) + 1) (cost g r) z few
       (leads_as g r (λ y. AtLast y.core × Since g r (IsOutside (base g r v laid is) (k + 1)) any_part z y) (Turns g r j) (2 * (k + 1) + 1) z
       (λ y h x kept. turn.goes_on (last_goes g r v laid is rest z k is_k exits j pc' regs bases no_hand behind fits has pc x

@@ -150,6 +150,7 @@ module _ {moment : Moment none_rests} (thread_at : ThreadAt moment None)
   pub own_effect : Effect g who c t r None (only_thread t) a e.left x.state e.world
   own_effect = record {
     clock = e.guarantee.clock;
+    sizes = e.guarantee.sizes;
     threads = λ u m. e.guarantee.others u (λ f. not_t u m (f ∙ thread_is)) (λ k. k);
     not_held = λ u s got ne. ne_eqb u t (λ f. got_not_run s (sym got ∙ ap (who c) f ∙ runs_r));
     ties = λ u n thread m there tied.

@@ -314,6 +314,7 @@ module _ {moment : Moment none_rests} (thread_at : ThreadAt moment None)
     pub effect : Effect g who c t r None moved a left x.state world
     effect = record {
       clock = refl;
+      sizes = refl;
       threads = λ u m. let k = not_moved u m in same_thread u k.0 k.1;
       not_held = λ u s got ne. by_got u s got;
       ties = λ u k thread m there tied.

@@ -263,6 +263,7 @@ module _ {moment : Moment none_rests} {hand : Option Hand} (thread_at : ThreadAt
   pub effect : Effect g who c t r hand moved a left x.state world
   effect = record {
     clock = refl;
+    sizes = refl;
     threads = λ u m. other_left u (not_moved_own u m) (not_moved_kid u m);
     not_held = λ u s got ne.
         still_moved u (λ e. let both : got_by s ≡ used_by r hand = sym got ∙ ap (who c) e ∙ runs_r in let z : ⊥ = cc in z)

@@ -129,6 +129,7 @@ module _ {moment : Moment none_rests} {n : ℕ} (thread_at : ThreadAt moment (gi
     pub effect : Effect g who c t r (giving_back n) (λ u. nat_eq u t) a left x.state x.state
     effect = record {
       clock = refl;
+      sizes = refl;
       threads = λ u m. others u (not_t u m);
       not_held = λ u k got ne. ne_eqb u t (λ e. let both : got_by k ≡ used_by r (giving_back n) = sym got ∙ ap (who c) e ∙ runs_r in let z : ⊥ = cc in z);
       ties = λ u k thread m there tied.

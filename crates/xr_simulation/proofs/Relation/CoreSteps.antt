@@ -120,6 +120,7 @@ kept_ends g s z e f y hand same k = subst (λ b. Rely g s z (record { core = b; 
   thread = k.thread;
   words = k.words;
   resources = own_then (IsMine g s) s.thread _ _ _ k.resources (own_same _ _ _ _ refl refl refl);
+  sizes = k.sizes;
   branch = k.branch;
   parents = k.parents;
   store = k.store;
@@ -287,6 +288,7 @@ moves g may_rest may_rest' who who' w w' x c a b moved piece y st step next =
 pub record Effect
     (g : Setting) (who : Roles) (c t : ℕ) (r : Runner) (hand : Option Hand) (moved : (thread : ℕ) → Bool) (a b : CoreState) (x y : World) : Type 0 where
   pub clock : b.clock ≡ a.clock
+  pub sizes : sizes_of b ≡ sizes_of a
   pub threads : (u : ℕ) → moved u ≡ false → slice_get b.threads u ≡ slice_get a.threads u
   pub not_held : (u s : ℕ) → who c u ≡ got_by s → s ≢ t → moved u ≡ false
   pub ties : (u n : ℕ) (thread : Thread) → moved u ≡ true → slice_get b.threads u ≡ Some thread → is_tied thread n ≡ true →
@@ -364,6 +366,7 @@ module _ {may_rest : (core thread : ℕ) → Bool} (moment : Moment may_rest) wh
     thread = refl;
     words = λ k m. refl;
     resources = own_same _ _ _ _ refl refl refl;
+    sizes = refl;
     branch = refl;
     parents = λ b m. refl;
     store = λ v uses. refl;
@@ -424,6 +427,7 @@ module _ {may_rest : (core thread : ℕ) → Bool} (moment : Moment may_rest) wh
           words = λ k m. effect.words k (λ change. apart.words k m change);
           resources = others_keep (IsMine g r) (IsMine g s) r.thread s.thread a b
               (λ e. ne (sym s_thread ∙ e ∙ st.roles.thread c t r hand runs_r)) apart.resources effect.resources;
+          sizes = effect.sizes;
           branch = own_still c u s other not_both runs_s s.branch works.branch (inl refl) works.known;
           parents = parents_left c u s other not_both runs_s;
           store = store_left c u s other not_both runs_s;
@@ -452,6 +456,7 @@ module _ {may_rest : (core thread : ℕ) → Bool} (moment : Moment may_rest) wh
           thread = refl;
           words = λ k m. refl;
           resources = own_same _ _ _ _ refl refl refl;
+          sizes = refl;
           branch = own_still d u s other not_both runs_s s.branch works.branch (inl refl) works.known;
           parents = parents_left d u s other not_both runs_s;
           store = store_left d u s other not_both runs_s;

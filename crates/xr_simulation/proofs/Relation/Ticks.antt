@@ -67,6 +67,7 @@ module _ (moment : Moment none_rests)
         thread = refl;
         words = λ v m. refl;
         resources = own_same _ _ _ _ refl refl refl;
+        sizes = refl;
         branch = refl;
         parents = λ b m. refl;
         store = λ v uses. refl;
@@ -88,6 +89,7 @@ module _ (moment : Moment none_rests)
         thread = refl;
         words = λ v m. refl;
         resources = own_same _ _ _ _ refl refl refl;
+        sizes = refl;
         branch = refl;
         parents = λ b m. refl;
         store = λ v uses. refl;

@@ -19,7 +19,7 @@ use Rattle.xl_expr.specs.declared.plan.VarPlan.{VarPlan}
 use Rattle.xl_expr.specs.Frames.{HaveVars, variable_of}
 use Rattle.xl_expr.specs.Plans.{var_in}
 use Rattle.xl_plan.specs.Layout.{is_used_on}
-use Rattle.xr_simulation.specs.Fits.{AllFit, BranchesFit, ChangesAt, FitOn, Fits, InputFits, IsChanged, ItemFits, ItemsFit, OutputFits, PutsOutAt, StampsAt, TakesInAt, Uses, UsesAt, UsesSome}
+use Rattle.xr_simulation.specs.Fits.{AllFit, AsksRightly, BranchesFit, ChangesAt, FitOn, Fits, InputFits, IsChanged, ItemFits, ItemsFit, OutputFits, PutsOutAt, StampsAt, TakesInAt, Uses, UsesCondition, UsesAt, UsesSome}
 use Rattle.xr_simulation.specs.Runners.{Block, Footprint, Setting, Runner, IsChannel, IsPort, anyone, end_place, footprint_of, home, outside, places, plan, plan_in, shrunk}
 use Rattle.xr_simulation.specs.ThreadViews.{ThreadView, running}
 use Rattle.xr_simulation.specs.Transfers.{Transfer, acts_left, items_behind}
@@ -211,6 +211,10 @@ module _ (g : Setting) (r s : Runner) (same : s.core ≡ r.core) (block : s.bloc
   some_here None h k = tt
   some_here (Some e) h k = expression_here e h k
 
+  condition_here : (c : Option kernel.Condition) → UsesCondition g r c → AreHad (λ th. by_condition th c) → UsesCondition g s c
+  condition_here None h k = tt
+  condition_here (Some c) h k = expression_here c.value h k
+
   some_target_here : (p : Option kernel.Place) → ChangesAt g r p → AreHad (λ th. by_some_target th p) → ChangesAt g s p
   some_target_here None h k = tt
   some_target_here (Some p) h k = target_here p h.0 k
@@ -227,10 +231,24 @@ module _ (g : Setting) (r s : Runner) (same : s.core ≡ r.core) (block : s.bloc
   resource_here (Timer t) h k = tt
   resource_here (Chan c) h k = channel_here c h
 
-  source_here : (o : KRes) → TakesInAt g r o → TakesInAt g s o
-  source_here (Port p) h = tt
-  source_here (Timer t) h = tt
-  source_here (Chan c) h = channel_here c h
+  source_here : (o : KRes) → TakesInAt g r o → AreHad (λ th. by_resource th o) → TakesInAt g s o
+  source_here (Port p) h k = record {
+    listed = h.listed;
+    is = record { mine = k (port p) (same_number p); known = h.is.known; core = h.is.core ∙ sym same };
+    receives = h.receives;
+  }
+  source_here (Timer t) h k = record {
+    listed = h.listed;
+    is = record { mine = k (timer t) (same_number t); known = h.is.known; core = h.is.core ∙ sym same };
+  }
+  source_here (Chan c) h k = channel_here c h
+
+  -- what is asked for doesn't depend on the runner
+  asks_here : (o : KRes) (time : Option kernel.Expression) (condition : Option kernel.Condition) → AsksRightly g r o time condition →
+      AsksRightly g s o time condition
+  asks_here (Port p) time condition h = h
+  asks_here (Timer t) time condition h = h
+  asks_here (Chan c) time condition h = tt
 
   stamp_here : (o : KRes) → StampsAt g r o → AreHad (λ th. by_resource th o) → StampsAt g s o
   stamp_here (Port p) h k = (h.0, record { mine = k (port p) (same_number p); known = h.1.known; core = h.1.core ∙ sym same })
@@ -251,14 +269,28 @@ module _ (g : Setting) (r s : Runner) (same : s.core ≡ r.core) (block : s.bloc
   output_here o h k = record {
     time = some_here o.time h.time (λ th u. k th (or_right (by_resource th o.resource) _ (or_left (by_some_expression th o.time) _ u)));
     value = expression_here o.value h.value (λ th u. k th (or_right (by_resource th o.resource) _ (or_right (by_some_expression th o.time) _ (or_left (by_expression th o.value) _ u))));
+    stamp = some_target_here o.stamp h.stamp
+        (λ th u. k th
+        (or_right (by_resource th o.resource) _
+        (or_right (by_some_expression th o.time) _ (or_right (by_expression th o.value) _ u))));
     to = resource_here o.resource h.to (λ th u. k th (or_left (by_resource th o.resource) _ u));
   }
 
   input_here : (i : kernel.Input) → InputFits g r i → AreHad (λ th. by_input th i) → InputFits g s i
   input_here i h k = record {
+    time = some_here i.time h.time (λ th u. k th (or_right (by_resource th i.resource) _ (or_left (by_some_expression th i.time) _ u)));
+    condition = condition_here i.condition h.condition
+        (λ th u. k th
+        (or_right (by_resource th i.resource) _
+        (or_right (by_some_expression th i.time) _ (or_left (by_condition th i.condition) _ u))));
     target = some_target_here i.target h.target
         (λ th u. k th (or_right (by_resource th i.resource) _ (or_right (by_some_expression th i.time) _ (or_right (by_condition th i.condition) _ (or_left (by_some_target th i.target) _ u)))));
-    from = source_here i.resource h.from;
+    stamp = some_target_here i.stamp h.stamp
+        (λ th u. k th
+        (or_right (by_resource th i.resource) _ (or_right (by_some_expression th i.time) _
+        (or_right (by_condition th i.condition) _ (or_right (by_some_target th i.target) _ u)))));
+    from = source_here i.resource h.from (λ th u. k th (or_left (by_resource th i.resource) _ u));
+    asks = asks_here i.resource i.time i.condition h.asks;
   }
 
   mutual

@@ -129,6 +129,7 @@ module _ {moment : Moment none_rests} {hand : Option Hand} {thread_at : ThreadAt
   pub silent_effect : Effect g who c t r hand moved a b x.state x.state
   silent_effect = record {
     clock = guarantee.clock;
+    sizes = guarantee.sizes;
     threads = s.threads;
     not_held = s.not_held;
     ties = s.ties;

@@ -1,6 +1,6 @@
 -- Where a thread stands between two own steps: at code, whatever the core is, and with another footprint or transfer.
-use Rattle.std.proofs.Common.{◌≡◌, ℕ, true, [], ◌∷◌, List, Option, sym, ◌∙◌, ⊎_elim}
-use Rattle.std.proofs.lemmas.Bool.{eqb-true, or_cases}
+use Rattle.std.proofs.Common.{◌≡◌, ℕ, true, [], ◌∷◌, List, Option, refl, sym, ◌∙◌, ⊎_elim, eq-eqb}
+use Rattle.std.proofs.lemmas.Bool.{eqb-true, or_cases, or_left}
 use Rattle.xs_instr.specs.declared.state.CoreState.{CoreState}
 use Rattle.xs_instr.specs.declared.state.Regs.{Regs}
 use Rattle.xs_instr.specs.declared.state.Res.{Res}
@@ -8,6 +8,7 @@ use Rattle.xs_instr.specs.declared.state.Res.TheVariants.{End as ResEnd, Port as
 use Rattle.xc_kernel.specs.declared.statement.KRes.TheVariants.{Port, Timer, Chan}
 use Rattle.xc_kernel.specs.declared.kernel.PortUse.{PortUse}
 use Rattle.xc_meaning.specs.States.Items.{Item, does, says, stores, stamps, mark, awaits, transaction_end, chooses, fixed, ends}
+use Rattle.xl_expr.proofs.ResourceParts.{port_same}
 use Rattle.xl_statements.specs.Pieces.{Exit}
 use Rattle.xr_simulation.specs.Fits.{ItemsFit}
 use Rattle.xr_simulation.specs.Runners.{Footprint, IsMine, IsPort, Setting, Runner, port_place}
@@ -46,7 +47,9 @@ module _ (g : Setting) (r : Runner) where
   items_stand (does s ∷ rest) exits pc j regs core h = (exits, h)
   items_stand (says i ∷ rest) exits pc j regs core h = (exits, h)
   items_stand (stores place v ∷ rest) exits pc j regs core h = absurd h.stands
-  items_stand (stamps resource place v ∷ rest) exits pc j regs core h = (exits, h)
+  items_stand (stamps (Port p) place v ∷ rest) exits pc j regs core h = absurd h.stands
+  items_stand (stamps (Timer t) place v ∷ rest) exits pc j regs core h = (exits, h)
+  items_stand (stamps (Chan c) place v ∷ rest) exits pc j regs core h = (exits, h)
   items_stand (mark n ∷ rest) exits pc j regs core h = (exits, h)
   items_stand (awaits c pos ∷ rest) exits pc j regs core h = (exits, h)
   items_stand (transaction_end c is_master pos ∷ rest) exits pc j regs core h = (exits, h)
@@ -68,7 +71,13 @@ module _ (g : Setting) (r : Runner) where
     λ regs' core' bases still. next regs' core' bases
         (λ part on. still part on ∙ same part on),
   )
-  stands_kept (stamps resource place v ∷ rest) j pc regs a b same h = h
+  stands_kept (stamps (Port p) place v ∷ rest) j pc regs a b same (stored, (port, there, stamp), lines, unwatched, next) =
+      let part = ResPort (port_place g r p) in
+      let on = or_left (is_port_number (port_place g r p) part) (stands_on_part g r.core rest part)
+      (eq-eqb (port_place g r p) (port_place g r p) refl) in
+      (stored, (port, port_same a b (port_place g r p) (same part on) ∙ there, stamp), lines, unwatched, next)
+  stands_kept (stamps (Timer t) place v ∷ rest) j pc regs a b same h = h
+  stands_kept (stamps (Chan c) place v ∷ rest) j pc regs a b same h = h
   stands_kept (mark n ∷ rest) j pc regs a b same h = h
   stands_kept (awaits c pos ∷ rest) j pc regs a b same h = h
   stands_kept (transaction_end c is_master pos ∷ rest) j pc regs a b same h = h
@@ -93,7 +102,10 @@ module _ (g : Setting) (r : Runner) where
       unwatched,
       λ regs' core' bases still. stands_on rest j stored regs' core' (next regs' core' bases still),
     )
-    stands_on (stamps resource place v ∷ rest) j pc regs core h = h
+    stands_on (stamps (Port p) place v ∷ rest) j pc regs core (stored, stamp, lines, unwatched, next) =
+        (stored, stamp, lines, unwatched, λ regs' core' bases. stands_on rest j stored regs' core' (next regs' core' bases))
+    stands_on (stamps (Timer t) place v ∷ rest) j pc regs core h = h
+    stands_on (stamps (Chan c) place v ∷ rest) j pc regs core h = h
     stands_on (mark n ∷ rest) j pc regs core h = h
     stands_on (awaits c pos ∷ rest) j pc regs core h = h
     stands_on (transaction_end c is_master pos ∷ rest) j pc regs core h = h

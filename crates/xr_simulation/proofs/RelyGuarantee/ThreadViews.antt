@@ -14,6 +14,7 @@ module _ (g : Setting) (r : Runner) where
     thread = k.thread ∙ h.thread;
     words = λ w m. k.words w m ∙ h.words w m;
     resources = own_then (IsMine g r) r.thread _ _ _ h.resources k.resources;
+    sizes = k.sizes ∙ h.sizes;
     branch = k.branch ∙ h.branch;
     parents = λ b m. k.parents b m ∙ h.parents b m;
     store = λ v u. k.store v u ∙ h.store v u;

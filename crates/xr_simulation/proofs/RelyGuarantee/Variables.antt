@@ -5,6 +5,7 @@ use Rattle.std.proofs.lemmas.Bool.{cases_eq, ltb-true}
 use Rattle.std.proofs.lemmas.List.{length-set, length-map, get_or-set_other, get_or-set_same}
 use Rattle.std.proofs.lemmas.Option.{slice_get-map, slice_get-get_or, slice_get_within, same_Some}
 use Rattle.xs_instr.specs.declared.state.Regs.{Regs}
+use Rattle.xs_instr.specs.declared.state.Res.{Res}
 use Rattle.xs_instr.specs.Memory.{address_at, word_at, word_by, word_put}
 use Rattle.xs_instr.specs.OwnSteps.{temporary, IsApart}
 use Rattle.xc_kernel.specs.Plain as kernel
@@ -51,9 +52,9 @@ module _ (g : Setting) (r : Runner) (laid : IsLaidOut g r) where
       (subst (λ d. IsAddress (plan g r).vars (relied g r) r.stack d words p i address) bases.base h)
 
   -- it is the same while the runner goes on
-  pub address_since : (z q : ThreadView) → Since g r (IsApart r.stack) any_part z q → (p : kernel.Place) (i address : ℕ) →
-      IsPlaced z.core.words p i address → IsPlaced q.core.words p i address
-  address_since z q since p i address h =
+  pub address_since : (stays : Res → Type 0) (z q : ThreadView) → Since g r (IsApart r.stack) stays z q → (p : kernel.Place)
+      (i address : ℕ) → IsPlaced z.core.words p i address → IsPlaced q.core.words p i address
+  address_since stays z q since p i address h =
       address_lasts (places g r.core) (relied g r) r.stack (4 * 0) z.core.words q.core.words z.world.store since.words p i address h
 
   -- `place_changes`, by cases

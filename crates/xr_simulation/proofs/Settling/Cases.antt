@@ -5,6 +5,7 @@ use Rattle.std.proofs.lemmas.Option.{same_Some, slice_get_within}
 use Rattle.std.specs.Prelude.{Bool, true, slice_get, slice_set}
 use Rattle.xw_words.specs.declared.pos.Pos.{Pos}
 use Rattle.xs_instr.specs.declared.state.Mode.TheVariants.{Running}
+use Rattle.xs_instr.specs.Machine.{parts_in}
 use Rattle.xc_disjoint.specs.Needs.{threads_on}
 use Rattle.xc_kernel.specs.Plain as kernel
 use Rattle.xc_invariants.proofs.Always.{laws_kept}
@@ -23,6 +24,7 @@ use Rattle.xr_simulation.specs.Fits.{FitOn}
 use Rattle.xr_simulation.specs.Parents.{Parent, sync_before, syncs_of}
 use Rattle.xr_simulation.specs.Roles.{HandFits, IsOnce, ParentsWait, Roles, empty, unused, used_by}
 use Rattle.xr_simulation.specs.Runners.{Runner, Setting, anyone, footprint_of, outside, shrunk}
+use Rattle.xr_simulation.specs.Sizes.{sizes_in}
 use Rattle.xr_simulation.specs.ThreadViews.{ThreadView, running}
 use Rattle.xr_simulation.specs.Settled.{IsOwn}
 use Rattle.xr_simulation.specs.Standing.{AreLoose, HasEnded, IsOnItsWay, Stand, Standing, StandsBy, StandsWith, ThreadIs}
@@ -124,7 +126,8 @@ module _ {may_rest : (core thread : ℕ) → Bool} {moment : Moment may_rest} {t
     on_its_way =
         let lt : r.core < 4 = subst (λ k. k < 4) (sym (st.roles.core c t r None runs_r)) (st.roles.there c t r None runs_r) in
         let sided = first_sided g r x.state st.lawful branch known stand.sides items items_are h.fits in
-        let leads = settled_leads g r (laid_at moment c t r None runs_r) lt items j z h own sided in
+        let sized = st.sizes c a at_c ∙ ap (λ d. sizes_in (parts_in g.image.cores d)) (sym (st.roles.core c t r None runs_r)) in
+        let leads = settled_leads g r (laid_at moment c t r None runs_r) lt items j z h sized own sided in
         (leads.0, leads.1, (let le = leads.2 in omega (arith, le, few)), leads.3)
 
     way_stand : Stand g r (may_rest' c t) hand a x.state (w.lives c t) (told_by g.program g.stimulus x [] x.state).actions branch

@@ -76,6 +76,7 @@ module _ {may_rest : (core thread : ℕ) → Bool} {moment : Moment may_rest} (t
   pub settled_effect : Effect g who c t r None (λ u. nat_eq u t) a a x.state y
   settled_effect = record {
     clock = refl;
+    sizes = refl;
     threads = λ u m. refl;
     not_held = λ u k got ne. ne_eqb u t (λ f. got_not_run k (sym got ∙ ap (who c) f ∙ runs_r));
     ties = λ u n thread m there tied.

@@ -167,6 +167,7 @@ module _ (g : Setting) (r : Runner) where
           words = k.words;
           resources = own_then (IsMine g r) r.thread _ _ _ (own_same _ _ _ _ refl refl refl)
               (own_then (IsMine g r) r.thread _ _ _ k.resources (own_same _ _ _ _ refl refl refl));
+          sizes = k.sizes;
           branch = k.branch;
           parents = k.parents;
           store = k.store;
@@ -212,6 +213,7 @@ module _ (g : Setting) (r : Runner) where
           words = k.words;
           resources = own_then (IsMine g r) r.thread _ _ _ (own_same _ _ _ _ refl refl refl)
               (own_then (IsMine g r) r.thread _ _ _ k.resources (own_same _ _ _ _ refl refl refl));
+          sizes = k.sizes;
           branch = k.branch;
           parents = k.parents;
           store = k.store;
