@@ -11,9 +11,12 @@ pub mod Jumps
 pub mod BlockEnds
 pub mod OnEnds
 pub mod Outputs
+pub mod PortOutputs
 pub mod ChannelOutputs
 pub mod ChannelInputs
 pub mod OnResources
+pub mod ResourceTurns
+pub mod Timings
 pub mod Stores
 pub mod Stamps
 pub mod Par

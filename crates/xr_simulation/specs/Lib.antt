@@ -13,3 +13,4 @@ pub mod Standing
 pub mod Settled
 pub mod Images
 pub mod Living
+pub mod StampedOutputs

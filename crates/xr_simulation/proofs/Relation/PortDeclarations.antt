@@ -18,6 +18,7 @@ use Rattle.xs_instr.specs.declared.state.PortGot.{PortGot}
 use Rattle.xs_instr.specs.declared.state.Res.{Res}
 use Rattle.xs_instr.specs.declared.state.Res.TheVariants.{Port as ResPort, Timer as ResTimer, End as ResEnd}
 use Rattle.xs_instr.specs.declared.state.Thread.{Thread}
+use Rattle.xs_instr.specs.declared.trace.Record.{Record}
 use Rattle.xs_instr.specs.Did.{Did, Given, Made, Paused, Traps, Idle, makes, told}
 use Rattle.xs_instr.specs.Events.{latched}
 use Rattle.xs_instr.specs.Ports.{counter, can_receive, can_send, drives, drives_by, drives_on, is_port_cond, meets, moved_at, port_cond_by, port_cond_set, port_data_set, port_latched, port_latched_at, port_stamp, port_time_set, reads, reads_latched, reads_now, reads_on, time_meets}
@@ -232,10 +233,16 @@ module _ (home : Home) (core : CoreState) (t : ℕ) (thread : Thread) where
   of_turn Unused = refl
   of_turn Trapped = refl
 
--- what a turn makes declares its ports as before
-pub same_declared : (home : Home) (core : CoreState) (t : ℕ) (left : CoreState) → slot home core t ≡ makes left → declared_in left.ports ≡ declared_in core.ports
-same_declared home core t left made = sym (ap (declared_after core) made) ∙ go (slice_get core.threads t)
+-- what a turn leaves declares its ports as before, whatever record it makes
+pub made_declared : (home : Home) (core : CoreState) (t : ℕ) (left : CoreState) (made : Option Record) →
+    slot home core t ≡ Made left made [] → declared_in left.ports ≡ declared_in core.ports
+made_declared home core t left made is = sym (ap (declared_after core) is) ∙ go (slice_get core.threads t)
   where
     go : (o : Option Thread) → declared_after core (turn_at home core t o) ≡ declared_in core.ports
     go None = refl
     go (Some thread) = of_turn home core t thread thread.mode
+
+-- and so where it makes none
+pub same_declared : (home : Home) (core : CoreState) (t : ℕ) (left : CoreState) → slot home core t ≡ makes left →
+    declared_in left.ports ≡ declared_in core.ports
+same_declared home core t left made = made_declared home core t left None made

@@ -17,6 +17,7 @@ use Rattle.xs_instr.specs.declared.state.Mode.TheVariants.{Unused, Waiting, Runn
 use Rattle.xs_instr.specs.declared.state.Res.{Res}
 use Rattle.xs_instr.specs.declared.state.Res.TheVariants.{Port as ResPort, Timer as ResTimer, End as ResEnd}
 use Rattle.xs_instr.specs.declared.state.Thread.{Thread}
+use Rattle.xs_instr.specs.declared.trace.Record.{Record}
 use Rattle.xs_instr.specs.declared.state.Timer.{Timer}
 use Rattle.xs_instr.specs.declared.state.Watch.{Watch}
 use Rattle.xs_instr.specs.Did.{Did, Made, Paused, Traps, Idle, makes, told}
@@ -354,10 +355,15 @@ module _ (home : Home) (core : CoreState) (t : ℕ) (thread : Thread) where
   of_turn Unused = refl
   of_turn Trapped = refl
 
--- what a turn makes has as many of each
-pub same_sizes : (home : Home) (core : CoreState) (t : ℕ) (left : CoreState) → slot home core t ≡ makes left → sizes_of left ≡ sizes_of core
-same_sizes home core t left made = sym (ap (sizes_after core) made) ∙ go (slice_get core.threads t)
+-- what a turn leaves has as many of each, whatever record it makes
+pub made_sizes : (home : Home) (core : CoreState) (t : ℕ) (left : CoreState) (made : Option Record) → slot home core t ≡ Made left made [] →
+    sizes_of left ≡ sizes_of core
+made_sizes home core t left made is = sym (ap (sizes_after core) is) ∙ go (slice_get core.threads t)
   where
     go : (o : Option Thread) → sizes_after core (turn_at home core t o) ≡ sizes_of core
     go None = refl
     go (Some thread) = of_turn home core t thread thread.mode
+
+-- and so where it makes none
+pub same_sizes : (home : Home) (core : CoreState) (t : ℕ) (left : CoreState) → slot home core t ≡ makes left → sizes_of left ≡ sizes_of core
+same_sizes home core t left made = made_sizes home core t left None made

@@ -4,7 +4,6 @@ use Rattle.std.specs.Prelude.{slice_get, slice_set, nat_le, nat_lt}
 use Rattle.std.proofs.lemmas.Bool.{and_from, le-leb, lt-ltb, ltb-true, ltb-false, or_left}
 use Rattle.std.proofs.lemmas.List.{length-set}
 use Rattle.std.proofs.lemmas.Option.{same_Some}
-use Rattle.xs_instr.specs.declared.image.Home.{Home}
 use Rattle.xs_instr.specs.declared.state.CoreState.{CoreState}
 use Rattle.xs_instr.specs.declared.state.Port.{Port}
 use Rattle.xs_instr.specs.declared.state.Regs.{Regs}
@@ -16,18 +15,18 @@ use Rattle.xs_instr.specs.OwnSteps.{IsApart, OwnStep, Within, temporary}
 use Rattle.xs_instr.specs.declared.state.Res.TheVariants.{Port as ResPort}
 use Rattle.xs_instr.specs.declared.state.Res.{Res}
 use Rattle.xc_kernel.specs.declared.kernel.PortUse.{PortUse}
+use Rattle.xc_kernel.specs.declared.kernel.Timer.{Timer as TimerUse}
 use Rattle.xc_kernel.specs.Eval.{words_of}
 use Rattle.xl_expr.proofs.Lists.{get_set_same, get_set_other, room_kept}
-use Rattle.xl_expr.proofs.ResourceParts.{others_fewer, others_of_port, others_same, own_fewer, part_same, port_same}
-use Rattle.xl_port.specs.PortSteps.{KeptPort, PortStep, WithinPort}
-use Rattle.xr_simulation.specs.Runners.{IsMine, Setting, Runner, IsPort, MayChange, of_stack, home, is_among_words, is_word_among, places, port_place, relied}
+use Rattle.xl_expr.proofs.ResourceParts.{others_fewer, others_same, own_fewer, part_same, port_same}
+use Rattle.xr_simulation.specs.Runners.{IsMine, Setting, Runner, IsPort, IsTimer, MayChange, of_stack, home, is_among_words, is_word_among, places, port_place, relied, timer_place}
 use Rattle.xr_simulation.specs.Sizes.{Sizes}
 use Rattle.xr_simulation.specs.ThreadViews.{ThreadView, Rely, IsSilentStep, SameUse, StillRuns, after, keeps, running, LeadsIn}
 use Rattle.xr_simulation.specs.Turns.{IsAt}
 use Rattle.xr_simulation.proofs.Relation.PortDeclarations.{declared_there, same_declared}
 use Rattle.xr_simulation.proofs.Relation.Sizes.{same_sizes}
 use Rattle.xl_expr.specs.PartSteps.{KeptParts, PartsStep, WithinParts}
-use Rattle.xl_expr.specs.ResourceParts.{part_of, port_alone}
+use Rattle.xl_expr.specs.ResourceParts.{part_of, port_alone, timer_alone}
 
 -- all resources
 abbrev pub any_part : Res → Type 0
@@ -41,37 +40,6 @@ apart_from some res = some res → ⊥
 pub among_words : (first words k : ℕ) → k < words → is_among_words first words (first + k) ≡ true
 among_words first words k lt =
     and_from (nat_le first (first + k)) (nat_lt (first + k) (first + words)) (le-leb first (first + k) (omega arith)) (lt-ltb (first + k) (first + words) (omega arith))
-
--- what is kept of one port's part is kept of the port
-kept_port : (relied : ℕ → Bool) (t p : ℕ) (a b : CoreState) → KeptParts relied (port_alone p) t a b → KeptPort relied t p a b
-kept_port relied t p a b k = record { own = k.own; port = port_same a b p (k.resources.parts (ResPort p) refl) }
-
-module _ (home : Home) (relied : ℕ → Bool) (leaves : ℕ → Type 0) (t p : ℕ) where
-  -- a step that changes one port alone changes one part alone
-  port_step : (a b : CoreState) → PortStep home leaves t p a b → PartsStep home leaves (port_alone p) t a b
-  port_step a b s = record {
-    thread = s.thread;
-    here = s.here;
-    after = s.after;
-    ports = s.ports;
-    timers = a.timers;
-    events = a.events;
-    made = s.made;
-    left = s.left;
-    words = s.words;
-    resources = others_of_port t p a b (λ q ne. ap (λ (c : CoreState). slice_get c.ports q) s.left ∙ s.others q ne)
-        (ap (λ (c : CoreState). c.timers) s.left) (ap (λ (c : CoreState). c.events) s.left);
-  }
-
-  -- so where steps on a port lead, steps on its part lead
-  pub port_within : (Q : CoreState → Type 0) (n : ℕ) (a : CoreState) → WithinPort home relied leaves t p Q n a →
-      WithinParts home relied leaves (port_alone p) t Q n a
-  port_within Q zero a h = h
-  port_within Q (suc n) a h =
-      ⊎_elim
-      (λ (here : Q a). inl here)
-      (λ on. inr (λ b k. let s = on b (kept_port relied t p a b k) in (s.0, port_step b s.0 s.1, port_within Q n s.0 s.2)))
-      h
 
 module _ (g : Setting) (r : Runner) where
   -- the runner relies on its temporary words
@@ -178,10 +146,10 @@ module _ (g : Setting) (r : Runner) where
   pub alone_mine : (p : ℕ) (listed : PortUse) → IsPort g r p listed → (res : Res) → port_alone (port_place g r p) res → IsMine g r res
   alone_mine p listed is res e = subst (IsMine g r) (sym e) (own_port p listed is)
 
-  pub port_kept : (p : ℕ) (listed : PortUse) → IsPort g r p listed → {z y : ThreadView} → Rely g r z y →
-      KeptPort (relied g r) r.thread (port_place g r p) z.core y.core
-  port_kept p listed is {z = z} {y = y} k =
-      kept_port (relied g r) r.thread (port_place g r p) z.core y.core (parts_kept (port_alone (port_place g r p)) (alone_mine p listed is) k)
+  -- or one of its timers
+  pub timer_alone_mine : (t : ℕ) (listed : TimerUse) → IsTimer g r t listed → (res : Res) → timer_alone (timer_place g r t) res →
+      IsMine g r res
+  timer_alone_mine t listed is res e = subst (IsMine g r) (sym e) (record { timer = t; listed = listed; is = is; place = refl })
 
   -- of the runner's ports those stay whose parts do
   pub ports_since : (leaves : ℕ → Type 0) (stays : Res → Type 0) (z y : ThreadView) → Since leaves stays z y →
