@@ -14,9 +14,12 @@ pub mod Outputs
 pub mod PortOutputs
 pub mod ChannelOutputs
 pub mod ChannelInputs
+pub mod Inputs
 pub mod OnResources
 pub mod ResourceTurns
 pub mod Timings
+pub mod PortInputs
+pub mod TimerInputs
 pub mod Stores
 pub mod Stamps
 pub mod Par

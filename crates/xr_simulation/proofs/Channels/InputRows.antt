@@ -10,15 +10,12 @@ use Rattle.xs_instr.specs.declared.trace.Trap.TheVariants.{Mismatch}
 use Rattle.xs_instr.specs.Did.{Made, Traps}
 use Rattle.xs_instr.specs.Registers.{reg_set}
 use Rattle.xs_instr.specs.Slot.{slot}
-use Rattle.xc_tree.specs.Depth.{if_some}
 use Rattle.xc_kernel.specs.Plain as kernel
-use Rattle.xc_meaning.specs.Counts.KernelCounts.{of_place}
 use Rattle.xc_meaning.specs.States.Branches.{runs, side_of}
 use Rattle.xc_meaning.specs.States.Channels.{Parcel, offer, other_side, taken}
 use Rattle.xc_meaning.specs.States.Items.{Item, does, storing}
 use Rattle.xc_meaning.specs.States.Worlds.{World}
-use Rattle.xr_simulation.specs.Fits.{ChangesAt, ItemsFit, greatest}
-use Rattle.xr_simulation.specs.Runners.{Runner, Setting, home, shrunk}
+use Rattle.xr_simulation.specs.Runners.{home, shrunk}
 use Rattle.xr_simulation.specs.ThreadViews.{running}
 use Rattle.xr_simulation.specs.Standing.{StandsWith, none_rests}
 use Rattle.xr_simulation.specs.Transfers.{AwaitsNothing, StopsIn, Transfer, in_phase}
@@ -28,6 +25,7 @@ use Rattle.xr_simulation.proofs.Channels.Worlds.{input_errs, received, received_
 use Rattle.xr_simulation.proofs.Channels.EndRows.{AtEnd, Goal, acts_row, answered_there, boxes_answered, near_end, stays_in, word_row}
 use Rattle.xr_simulation.proofs.Channels.EndSteps.{gone_on}
 use Rattle.xr_simulation.proofs.ItemCode.Evaluations.{err_acts}
+use Rattle.xr_simulation.proofs.ItemCode.Items.{storing_fits}
 use Rattle.xr_simulation.proofs.Relation.Moments.{BranchAt, Moment, ThreadAt}
 use Rattle.xr_simulation.proofs.Channels.OwnTransfers as own
 use Rattle.xr_simulation.proofs.Channels.OwnTransfers.{ActsAtEnd, behind, has_behind, left, less}
@@ -47,10 +45,6 @@ use Rattle.xr_channels.proofs.Sides.Found.{is_offer}
 storing_awaits_nothing : (target : Option kernel.Place) (v : ℕ) (rest : List Item) → AwaitsNothing rest → AwaitsNothing (storing target v rest)
 storing_awaits_nothing None v rest h = h
 storing_awaits_nothing (Some place) v rest h = tt
-
-storing_fits : (g : Setting) (r : Runner) (target : Option kernel.Place) (v : ℕ) (rest : List Item) → ChangesAt g r target → if_some of_place target ≤ greatest g r → ItemsFit g r rest → ItemsFit g r (storing target v rest)
-storing_fits g r None v rest changes counted fits = fits
-storing_fits g r (Some place) v rest changes counted fits = ((changes, counted), fits)
 
 module _ {moment : Moment none_rests} {thread_at : ThreadAt moment None} (branch_at : BranchAt thread_at)
     (on : branch_at.branch.mode ≡ runs) (none : thread_at.runner.transfer ≡ None) (j : ℕ) (few : j ≤ branch_at.stand.left)

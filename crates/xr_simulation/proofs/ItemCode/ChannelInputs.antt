@@ -8,8 +8,7 @@ use Rattle.xs_instr.specs.declared.state.Regs.{Regs}
 use Rattle.xs_instr.specs.Lines.{Line}
 use Rattle.xs_instr.specs.OwnSteps.{IsApart, StandAt}
 use Rattle.xs_instr.specs.Registers.{reg_set}
-use Rattle.xc_kernel.specs.declared.statement.KRes.{KRes}
-use Rattle.xc_kernel.specs.declared.statement.KRes.TheVariants.{Port, Timer, Chan}
+use Rattle.xc_kernel.specs.declared.statement.KRes.TheVariants.{Chan}
 use Rattle.xc_kernel.specs.Plain as kernel
 use Rattle.xc_meaning.specs.States.Channels.{Side}
 use Rattle.xc_meaning.specs.States.Items.{Item, does, storing}
@@ -19,8 +18,8 @@ use Rattle.xl_expr.specs.Destinations.{WritesTo}
 use Rattle.xl_expr.proofs.Lists.{stand_back, stand_front}
 use Rattle.xl_expr.proofs.Runs.{r0_alone}
 use Rattle.xl_ends.specs.Ends.{end_at}
-use Rattle.xl_statements.specs.Pieces.{ByEndAt, Exit, InputAt}
-use Rattle.xr_simulation.specs.Fits.{Fits, ItemsFit, TakesInAt}
+use Rattle.xl_statements.specs.Pieces.{ByEndAt, Exit}
+use Rattle.xr_simulation.specs.Fits.{Fits, ItemsFit}
 use Rattle.xr_simulation.specs.Runners.{Setting, Runner, IsChannel, IsLaidOut, code, end_place, home, plan, relied}
 use Rattle.xr_simulation.specs.ThreadViews.{ThreadView, Rely, running}
 use Rattle.xr_simulation.specs.Turns as turn
@@ -115,14 +114,3 @@ take_leads g r i c to_channel used rest exits pc pc' j z regs laid piece fits (s
     (stand_back (code g r) pc parts.transfer parts.write stand) behind i fits rest_fits c to_channel side stands_in parts.writes
     z y q regs bases k (since.hand ∙ no_hand) (has_since g r laid (does (kernel.input i) ∷ rest) z q since (since.room has.holds.room) has) h.0))
     (arrives g r (IsApart r.stack) (apart_of_changes g r) outcome 3 z (at_runs g r z pc regs here) way))
-
--- only channels have inputs whose code is built
-module _ (g : Setting) (r : Runner) where
-  pub input_leads : (i : kernel.Input) → StatementLeads g r (kernel.input i)
-  input_leads i rest exits pc pc' j z regs laid piece (fits, counted) sided behind rest_fits has sized here bases no_hand =
-      from i.resource refl piece fits.from sided
-    where
-      from : (res : KRes) → i.resource ≡ res → InputAt (code g r) (plan g r) r.sides i res pc pc' → TakesInAt g r res → IsOnSide g r res → Leads g r (cost g r) j z
-      from (Port p) e h used on = absurd h
-      from (Timer t) e h used on = absurd h
-      from (Chan c) e h used on = take_leads g r i c e used rest exits pc pc' j z regs laid h (fits, counted) on behind rest_fits has here bases no_hand

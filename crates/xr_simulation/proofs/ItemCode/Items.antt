@@ -1,15 +1,17 @@
 -- Where the code of items stands, and what they need, before statements and behind jumps.
-use Rattle.std.proofs.Common.{◌≡◌, ℕ, zero, suc, ◌+◌, Bool, true, false, List, [], ◌∷◌, refl, sym, subst, arith}
+use Rattle.std.proofs.Common.{◌≡◌, ℕ, zero, suc, ◌+◌, ◌≤◌, Bool, true, false, List, [], ◌∷◌, Option, Some, None, refl, sym, subst, arith}
 use Rattle.std.specs.Prelude.{nat_eq}
 use Rattle.xs_instr.specs.declared.image.Code.{Code}
 use Rattle.xc_kernel.specs.Plain as kernel
+use Rattle.xc_tree.specs.Depth.{if_some}
+use Rattle.xc_meaning.specs.Counts.KernelCounts.{of_place}
 use Rattle.xc_meaning.specs.Settings.Flow.{from_mark_by, items_from_mark}
-use Rattle.xc_meaning.specs.States.Items.{Item, does, says, stores, stamps, mark, awaits, transaction_end, chooses, fixed, ends, todo}
+use Rattle.xc_meaning.specs.States.Items.{Item, does, says, stores, stamps, mark, awaits, transaction_end, chooses, fixed, ends, storing, todo}
 use Rattle.xl_expr.specs.declared.plan.Plan.{Plan}
 use Rattle.xr_simulation.specs.Items.{ItemsAt}
 use Rattle.xl_ends.specs.Ends.{Sides}
 use Rattle.xl_statements.specs.Pieces.{Exit, Jumps, PiecesAt}
-use Rattle.xr_simulation.specs.Fits.{AllFit, ItemsFit}
+use Rattle.xr_simulation.specs.Fits.{AllFit, ChangesAt, ItemsFit, greatest}
 use Rattle.xr_simulation.specs.Runners.{Setting, Runner}
 
 -- jumps behind jumps
@@ -53,6 +55,12 @@ module _ (plan : Plan) (code : Code) (sides : Sides) (End : (pc j : ℕ) → Typ
   pieces_before ss (i ∷ rest) exits a b j h k = code_stands ss i rest exits a b j h k
 
 module _ (g : Setting) (r : Runner) where
+  -- a store before items fits where there is room for it
+  pub storing_fits : (target : Option kernel.Place) (v : ℕ) (rest : List Item) → ChangesAt g r target →
+      if_some of_place target ≤ greatest g r → ItemsFit g r rest → ItemsFit g r (storing target v rest)
+  storing_fits None v rest changes counted fits = fits
+  storing_fits (Some place) v rest changes counted fits = ((changes, counted), fits)
+
   -- statements before items fit where both do
   pub all_fit : (ss : kernel.Statements) (rest : List Item) → AllFit g r ss → ItemsFit g r rest → ItemsFit g r (todo ss rest)
   all_fit kernel.no_more rest h k = k

@@ -10,7 +10,7 @@ use Rattle.xr_simulation.proofs.ItemCode.Jumps.{exit_item_leads}
 use Rattle.xr_simulation.proofs.ItemCode.Outputs.{output_leads}
 use Rattle.xr_simulation.proofs.ItemCode.ParOpens.{par_leads}
 use Rattle.xr_simulation.proofs.ItemCode.Assignments.{set_leads}
-use Rattle.xr_simulation.proofs.ItemCode.ChannelInputs.{input_leads}
+use Rattle.xr_simulation.proofs.ItemCode.Inputs.{input_leads}
 use Rattle.xr_simulation.proofs.ItemCode.Tests.{if_leads, loop_leads}
 use Rattle.xr_simulation.proofs.ItemCode.Zeros.{zero_leads}
 
