@@ -23,13 +23,14 @@ use Rattle.xr_simulation.specs.Fits.{Fits, ItemsFit}
 use Rattle.xr_simulation.specs.Runners.{Setting, Runner, IsChannel, IsLaidOut, code, end_place, home, plan, relied}
 use Rattle.xr_simulation.specs.ThreadViews.{ThreadView, Rely, running}
 use Rattle.xr_simulation.specs.Turns as turn
-use Rattle.xr_simulation.specs.Turns.{Communicates, Has, HasBases, IsAt, IsBehind, IsOnSide, ItemsFrom, Leads, StatementLeads, TakesSteps, Turns, cost, takes_in}
+use Rattle.xr_simulation.specs.Turns.{Communicates, Has, HasBases, IsAt, IsBehind, IsOnSide, ItemsFrom, Leads, StatementLeads, StandsAt, TakesSteps, Turns, cost, takes_in}
 use Rattle.xr_simulation.proofs.RelyGuarantee.Arrival.{Since, any_part, apart_of_changes, arrives, at_runs, since_kept}
 use Rattle.xr_simulation.proofs.Image.Bases.{bases_scratched, bases_worked}
 use Rattle.xr_simulation.proofs.Image.Identifiers.{end_named}
 use Rattle.xr_simulation.proofs.RelyGuarantee.Layouts.{has_since, room_of, runs_at}
 use Rattle.xr_simulation.proofs.ItemCode.OnEnds.{end_stands, on_end}
-use Rattle.xr_simulation.proofs.Channels.Protocols.{all_from, behind_of_items, nothing_awaited}
+use Rattle.xr_simulation.proofs.ItemCode.OnResources.{storing_stands, storing_unwatched}
+use Rattle.xr_simulation.proofs.Channels.Protocols.{all_from, nothing_awaited}
 use Rattle.xr_simulation.proofs.RelyGuarantee.ThreadViews.{leads_as, leads_more}
 use Rattle.xr_simulation.proofs.RelyGuarantee.Events.{items_unwatched}
 use Rattle.xr_simulation.proofs.RelyGuarantee.Stands.{items_stand}
@@ -41,23 +42,17 @@ module _ (g : Setting) (r : Runner) (rest : List Item) (exits : List Exit) (pc p
   write_end = let e = length-append transfer write in omega (arith, e, end)
 
   -- behind the transfer the word is stored, and then what is left follows
-  stored_behind : (target : Option kernel.Place) → WritesTo (plan g r).vars target (pc + length transfer) write → (regs : Regs) → HasBases g r regs →
-      IsBehind g r (storing target regs.r0 rest) j (pc + length transfer) regs
-  stored_behind None none regs bases =
-      let same : pc' ≡ pc + length transfer = let e = ap length none in let f = write_end in omega (arith, e, f) in
-      behind_of_items g r rest exits (pc + length transfer) j regs bases (subst (λ p. ItemsFrom g r rest exits p j) same behind)
-  stored_behind (Some place) writes regs bases = (
-    bases,
-    refl,
-    λ core. (
-      pc',
-      refl,
-      record { lines = write; stand = written; so = writes; end = write_end },
-      items_unwatched g r rest exits pc' j behind,
-      λ regs' core' bases' still. items_stand g r rest exits
-          pc' j regs' core' behind,
-    ),
-  )
+  stored_behind : (target : Option kernel.Place) → WritesTo (plan g r).vars target (pc + length transfer) write → (regs : Regs) →
+      HasBases g r regs → IsBehind g r (storing target regs.r0 rest) j (pc + length transfer) regs
+  stored_behind target writes regs bases =
+      let unwatched = items_unwatched g r rest exits pc' j behind in (
+        bases,
+        storing_unwatched g r target regs.r0 rest unwatched,
+        λ core. storing_stands g r rest (pc + length transfer) j write written core unwatched
+            (λ later other bases' same.
+            subst (λ q. StandsAt g r rest j q later other) write_end (items_stand g r rest exits pc' j later other behind))
+            target writes regs.r0 regs bases refl,
+      )
 
   module _ (i : kernel.Input) (item_fits : Fits g r (kernel.input i)) (rest_fits : ItemsFit g r rest) (c : ℕ) (to_channel : i.resource ≡ Chan c) (side : Side) (stands_in : slice_index_or r.sides c None ≡ Some side) (writes : WritesTo (plan g r).vars i.target (pc + length transfer) write) where
     -- at the first step of the protocol
