@@ -1,25 +1,33 @@
-//! Cases: a text, and the lines that must come of it.
+//! Cases: a text, the stimulus of its run, and the lines that must come of it.
 
 use std::alloc::{AllocError, AllocFailed, Global};
+use xr_stim::StimErr;
 use xw_io::SinkFault;
 use xw_words::Memory;
 
-/// A text, and the lines that must come of it. Each line of both ends with a line feed.
+/// A text, the stimulus of its run, and the lines that must come of it. Each line of the three ends with a line feed.
 #[derive(Drop)]
 pub struct Case {
     pub text: String,
+    pub stimulus: String,
     pub wanted: String,
 }
 
 impl Case {
-    /// A case by its lines: `| ..` is a line of the text, and `= ..` one that must come of it. `|` alone is an empty line.
+    /// A case by its lines: `| ..` is a line of the text, `stim ..` one of the stimulus, and `= ..` one that must come of it. A mark
+    /// alone is an empty line.
     pub fn read(alloc: Global, lines: &str) -> Result<Case, Trouble> {
-        let text = marked(alloc, lines, '|')?;
-        let wanted = marked(alloc, lines, '=')?;
+        let text = marked(alloc, lines, "|")?;
+        let stimulus = marked(alloc, lines, "stim")?;
+        let wanted = marked(alloc, lines, "=")?;
         if text.is_empty() || wanted.is_empty() {
             return Err(Trouble::Lines);
         }
-        Ok(Case { text, wanted })
+        Ok(Case {
+            text,
+            stimulus,
+            wanted,
+        })
     }
 
     /// The first line of what came that differs from the one that must come, with that one.
@@ -39,7 +47,7 @@ impl Case {
 }
 
 /// What stands behind a mark and a space, line by line.
-fn marked(alloc: Global, lines: &str, mark: char) -> Result<String, AllocError> {
+fn marked(alloc: Global, lines: &str, mark: &str) -> Result<String, AllocError> {
     let mut all = String::new(alloc);
     for line in lines.split('\n') {
         if let Some(rest) = line.strip_prefix(mark) {
@@ -59,6 +67,8 @@ pub enum Trouble {
     Text,
     /// The text has a statement whose code isn't built.
     Statement,
+    /// The stimulus breaks a rule.
+    Stimulus,
     /// What comes of it is longer than a case's may be.
     Long,
     Memory,
@@ -71,6 +81,7 @@ impl Trouble {
             Trouble::Lines => "no text, or no line that must come of it",
             Trouble::Text => "a text without a checked kernel",
             Trouble::Statement => "a statement whose code isn't built",
+            Trouble::Stimulus => "a stimulus that breaks a rule",
             Trouble::Long => "more comes than a case may have",
             Trouble::Memory => "out of memory",
         }
@@ -92,6 +103,15 @@ impl From<AllocError> for Trouble {
 impl<T: Drop> From<AllocFailed<T>> for Trouble {
     fn from(_: AllocFailed<T>) -> Trouble {
         Trouble::Memory
+    }
+}
+
+impl From<StimErr> for Trouble {
+    fn from(error: StimErr) -> Trouble {
+        match error {
+            StimErr::Line { .. } => Trouble::Stimulus,
+            StimErr::Memory => Trouble::Memory,
+        }
     }
 }
 

@@ -71,7 +71,7 @@ fn difference_of(alloc: Global, wanted: Wanted, lines: &str) -> Result<Option<St
     let mut sink = MemSink::new(alloc, MOST_BYTES, List::new(alloc))?;
     match wanted {
         Wanted::Listing => write_listing(alloc, text, &mut sink)?,
-        Wanted::Run => write_run(alloc, text, &mut sink)?,
+        Wanted::Run => write_run(alloc, text, case.stimulus.as_bytes(), &mut sink)?,
     }
     let Ok(came) = str::from_utf8(sink.bytes()) else {
         return Err(Trouble::Long);

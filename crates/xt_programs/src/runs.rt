@@ -3,11 +3,12 @@
 use crate::cases::Trouble;
 use crate::images::image_of;
 use std::alloc::Global;
+use xr_stim::read_stim;
 use xr_text::{add_record, add_word};
 use xs_fabric::Machine;
-use xs_instr::{EndWord, Stim};
+use xs_instr::EndWord;
 use xw_io::{Out, Sink};
-use xw_words::{List, Memory};
+use xw_words::Memory;
 
 /// How many rounds a run has: as many as `xcsim run` makes where no other number is given.
 const ROUNDS: u32 = 100_000;
@@ -18,9 +19,14 @@ const ROUNDS_AT_ONCE: u32 = 1_000;
 /// The most records that one round makes: one for each thread of the four cores.
 const RECORDS_A_ROUND: u32 = 32;
 
-/// Writes the records of a text's run without a stimulus, and its end line.
-pub fn write_run<O: Sink>(alloc: Global, text: &[u8], sink: &mut O) -> Result<(), Trouble> {
-    let machine = run(alloc, text)?;
+/// Writes the records of a text's run under a stimulus, and its end line.
+pub fn write_run<O: Sink>(
+    alloc: Global,
+    text: &[u8],
+    stimulus: &[u8],
+    sink: &mut O,
+) -> Result<(), Trouble> {
+    let machine = run(alloc, text, stimulus)?;
     let mut out = Out::new(sink);
     for record in machine.trace() {
         add_record(&mut out, record);
@@ -33,11 +39,9 @@ pub fn write_run<O: Sink>(alloc: Global, text: &[u8], sink: &mut O) -> Result<()
 }
 
 /// The machine of a text's image after all rounds. Where nothing more can happen, those that are left out would tick its clocks alone.
-fn run(alloc: Global, text: &[u8]) -> Result<Machine, Trouble> {
+fn run(alloc: Global, text: &[u8], stimulus: &[u8]) -> Result<Machine, Trouble> {
+    let stim = read_stim(alloc, stimulus)?;
     let image = image_of(alloc, text)?;
-    let stim = Stim {
-        lines: List::new(alloc),
-    };
     let mut machine = Machine::boot(alloc, &image, &stim)?;
     for _time in 0..ROUNDS / ROUNDS_AT_ONCE {
         match machine.end() {
