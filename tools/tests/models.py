@@ -1,16 +1,64 @@
 """What the examples output: worked out here from what each program is to compute, and never by running xcsim.
 
-A model gives (tick, port, value) for each output, in order, and taken(value) for each word that is taken from a channel."""
+A model gives (tick, port, value) for each output, in order, taken(value) for each word that is taken from a channel, and Read(tick, port,
+value) for each input from a port. What it reads are the pins of the example's stimulus, which is told here too."""
 
 import binascii
 import math
 import re
+from typing import NamedTuple
 
 WIDTHS = re.compile(r"([0-9]+)[A-P]")
 
 
+class Read(NamedTuple):
+    tick: int
+    port: str
+    value: int
+
+
 def taken(word):
     return (None, None, word)
+
+
+def edges_of(outputs):
+    """The edges of a wire that is driven so, and is 0 at first."""
+    driven = [(tick, level) for tick, _, level in outputs]
+    return [(tick, level) for (tick, level), (_, before) in zip(driven, [(0, 0), *driven]) if level != before]
+
+
+def level_at(edges, tick):
+    """What a wire is at a tick, by its edges: each with its tick and what the wire is from there on."""
+    return [0, *(level for at, level in edges if at <= tick)][-1]
+
+
+def edge_behind(edges, tick, level):
+    """The first tick behind another one at which a wire becomes this level."""
+    return min(at for at, now in edges if at > tick and now == level)
+
+
+# pressed, let go, a spike, pressed, let go and pressed; what is at rest behind each is the last edge of its line
+BUTTON = [
+    *[(5000, 1), (5060, 0), (5110, 1), (5300, 0), (5340, 1)],
+    *[(20000, 0), (20080, 1), (20150, 0)],
+    *[(30000, 1), (30040, 0)],
+    *[(40000, 1), (40030, 0), (40200, 1)],
+    *[(55000, 0), (55020, 1), (55100, 0)],
+    *[(70000, 1), (70050, 0), (70090, 1)],
+]
+
+
+def button():
+    made, level, tick, presses = [], 0, 0, 0
+    while presses < 3:
+        edge = edge_behind(BUTTON, tick, 1 - level)
+        tick = edge + 1000
+        now = level_at(BUTTON, tick)
+        made += [Read(edge, "1B", 1 - level), Read(tick, "1B", now)]
+        if now != level:
+            level, presses = now, presses + now
+            made += [(tick + 100, "1A", level), *([(tick + 200, "8A", presses)] if level else [])]
+    return made
 
 
 def bits():
@@ -72,6 +120,18 @@ def lights():
     return [(tick, "4A", lamps) for tick, lamps in zip(starts, [1, 3, 4, 2, 1, 3, 4, 2, 2])]
 
 
+METER = [(1000, 1), (1750, 0), (64800, 1), (70000, 0), (80000, 1), (80040, 0)]
+
+
+def meter():
+    made, before = [], None
+    for (rise, _), (fall, _) in zip(METER[::2], METER[1::2]):
+        made += [Read(rise, "1B", 1), Read(fall, "1B", 0), (fall + 500, "16A", fall - rise)]
+        made += [(fall + 600, "32A", fall - before)] if before else []
+        before = fall
+    return made
+
+
 def outside():
     return [(1000 + 100 * i, "8A", i * i) for i in range(4)]
 
@@ -81,6 +141,17 @@ def producer():
     while numbers[-1] != 1:
         numbers.append(3 * numbers[-1] + 1 if numbers[-1] % 2 else numbers[-1] // 2)
     return [record for i, number in enumerate(numbers, 1) for record in (taken(number), (1000 * i, "8A", number))]
+
+
+def receiver():
+    made = [Read(1000, "1B", 1)]
+    for number, byte in enumerate(b"Hi!"):
+        start = 2000 + 8680 * number
+        middles = [start + 868 * bit + 434 for bit in range(1, 10)]
+        bits = f"1{byte:08b}"[::-1]  # the lowest first, and the stop bit behind the highest
+        made += [Read(start, "1B", 0), *(Read(tick, "1B", int(bit)) for tick, bit in zip(middles, bits))]
+        made.append((middles[-1] + 200, "8A", byte))
+    return made
 
 
 def ring():
@@ -124,6 +195,7 @@ def sort():
 
 MODELS = {
     "bits": bits,
+    "button": button,
     "crc": crc,
     "dimmer": dimmer,
     "divide": divide,
@@ -131,14 +203,19 @@ MODELS = {
     "gcd": gcd,
     "lanes": lanes,
     "lights": lights,
+    "meter": meter,
     "outside": outside,
     "producer": producer,
+    "receiver": receiver,
     "ring": ring,
     "search": search,
     "serial": serial,
     "sieve": sieve,
     "sort": sort,
 }
+
+# the edges of the wire at port 1B, of the examples that read it
+STIMULI = {"button": BUTTON, "meter": METER, "receiver": edges_of(serial())}
 
 # what stands behind the outputs, where the program doesn't just finish
 ENDS = {"outside": "err 0 12:5 index\nend trapped\n"}
@@ -147,10 +224,16 @@ ENDS = {"outside": "err 0 12:5 index\nend trapped\n"}
 def trace_of(name):
     """The trace that the model of a program gives, with its end line."""
     lines = []
-    for tick, port, value in MODELS[name]():
+    for record in MODELS[name]():
+        tick, port, value = record
         if port is None:
             lines.append(f"com 0 {value % 2 ** 32}\n")
             continue
-        width = int(WIDTHS.fullmatch(port).group(1))
-        lines.append(f"out 0 {port} @{tick % 65536} {value % 2 ** width}\n")
+        kind, width = "in" if isinstance(record, Read) else "out", int(WIDTHS.fullmatch(port).group(1))
+        lines.append(f"{kind} 0 {port} @{tick % 65536} {value % 2 ** width}\n")
     return "".join(lines) + ENDS.get(name, "end finished\n")
+
+
+def stimulus_of(name):
+    """The lines of an example's stimulus, without its comments."""
+    return [f"{tick} 0 1B {level}" for tick, level in STIMULI[name]]

@@ -5,8 +5,22 @@ import re
 import subprocess
 import unittest
 
-from .models import MODELS, trace_of
-from .samples import EXAMPLES, PROGRAMS, TOP, example, output_of, output_of_example, runs_of_examples, written
+from traces.stimulus import read_stimulus
+
+from .models import MODELS, STIMULI, Read, level_at, stimulus_of, trace_of
+from .samples import (
+    EXAMPLES,
+    PROGRAMS,
+    TOP,
+    WAITING,
+    example,
+    output_of,
+    output_of_example,
+    runs_of_examples,
+    stimulus_lines,
+    stimulus_words,
+    written,
+)
 from .test_commands import called
 from .test_diagram import drawn
 
@@ -28,6 +42,23 @@ class Stored(unittest.TestCase):
         for name in MODELS:
             self.assertEqual(written(example(f"{name}.trace")), trace_of(name), name)
 
+    def test_each_stimulus_is_that_of_its_model(self):
+        stored = sorted(name[:-5] for name in os.listdir(EXAMPLES) if name.endswith(".stim"))
+        self.assertEqual(sorted(STIMULI), stored)
+        for name, edges in STIMULI.items():
+            with open(example(f"{name}.stim"), "rb") as file:
+                self.assertEqual([tick for tick, _ in read_stimulus(file, name)], [tick for tick, _ in edges])
+            self.assertEqual(stimulus_lines(name), stimulus_of(name), name)
+
+    def test_each_model_reads_the_pins(self):
+        for name, edges in STIMULI.items():
+            read = [record for record in MODELS[name]() if isinstance(record, Read)]
+            self.assertEqual([record.value for record in read], [level_at(edges, record.tick) for record in read], name)
+
+    def test_the_receiver_reads_what_the_transmitter_sent(self):
+        made = called("stim-from-trace", "-", "0:1A=0:1B", text=output_of_example("serial")).stdout
+        self.assertEqual([line for line in made.splitlines() if not line.startswith("#")], stimulus_lines("receiver"))
+
     def test_each_trace_can_be_read(self):
         for name in PROGRAMS:
             output = output_of(output_of_example(name), name)
@@ -46,13 +77,20 @@ class Stored(unittest.TestCase):
 
     @unittest.skipUnless(os.access(PROGRAM, os.X_OK), "the program isn't built")
     def test_the_program_writes_what_is_stored(self):
-        for name in PROGRAMS:
-            run = subprocess.run([PROGRAM, "run", example(f"{name}.xc")], capture_output=True, encoding="utf-8", check=False)
+        for name in [it for it in PROGRAMS if it not in WAITING]:
+            words = [PROGRAM, "run", example(f"{name}.xc"), *stimulus_words(name)]
+            run = subprocess.run(words, capture_output=True, encoding="utf-8", check=False)
             _, mark, trace = run.stdout.partition("\ntrace\n")
             self.assertEqual((mark, trace, run.stderr), ("\ntrace\n", written(example(f"{name}.trace")), ""), name)
             output = output_of(run.stdout, name)
             list(output.records())
             self.assertEqual(run.returncode, STATUS[output.end], name)
+
+    @unittest.skipUnless(os.access(PROGRAM, os.X_OK), "the program isn't built")
+    def test_what_waits_is_refused_so_far(self):
+        for name in WAITING:
+            check = subprocess.run([PROGRAM, "check", example(f"{name}.xc")], capture_output=True, encoding="utf-8", check=False)
+            self.assertRegex(check.stderr, r"rule 299\n\Z", f"{name} waits no more: its line leaves WAITING in samples.py")
 
     @unittest.skipUnless(os.access(PROGRAM, os.X_OK), "the program isn't built")
     def test_the_program_writes_the_whole_output(self):
