@@ -12,7 +12,7 @@ from typing import Optional
 from .clang import size_by_clang, size_of_listing
 from .scratch import TOP, write
 from .timing import Run, least, run
-from .xc import EIGHT, LOOPS, endless, long_program
+from .xc import EIGHT, LOOPS, edges, endless, long_program, waits
 
 TICKS = 200_000
 
@@ -83,11 +83,30 @@ def loop_row(name: str, room: str, interpreter: Optional[str]) -> dict:
 
 
 def eight_row(name: str, room: str, interpreter: Optional[str]) -> dict:
-    """The least time of each of those that run a program of eight threads in turns."""
-    path, listing = os.path.join(room, "eight.xc"), os.path.join(room, "eight.lst")
-    write(EIGHT[name], path)
+    """How long a program of eight threads takes."""
+    return {"eight threads": name, **raced(calls_of(EIGHT[name], "", room, interpreter))}
+
+
+def waiting_row(pace: str, room: str, interpreter: Optional[str]) -> dict:
+    """How long the program of threads that wait takes at a pace, under its stimulus, and whether the interpreter writes the same trace."""
+    calls = calls_of(waits(pace), edges(pace, TICKS), room, interpreter)
+    traces = {run([*words, "--ticks", str(TICKS)], ()).output.partition("trace\n")[2] for words in calls.values()}
+    same = {"same trace": "yes" if len(traces) == 1 else "no"} if interpreter else {}
+    return {"waits": pace, **raced(calls), **same}
+
+
+def calls_of(text: str, stimulus: str, room: str, interpreter: Optional[str]) -> dict[str, list[str]]:
+    """The calls that run a program under a stimulus, or without one where it is empty."""
+    path, pins, listing = (os.path.join(room, it) for it in ("eight.xc", "eight.stim", "eight.lst"))
+    write(text, path)
+    write(stimulus, pins)
     write(call("asm", path).output, listing)
-    calls = {"here": [xcsim(), "run", path], **({"interpreter": [interpreter, listing]} if interpreter else {})}
+    more = [pins] if stimulus else []
+    return {"here": [xcsim(), "run", path, *more], **({"interpreter": [interpreter, listing, *more]} if interpreter else {})}
+
+
+def raced(calls: dict[str, list[str]]) -> dict:
+    """The least time of each of those calls, made in turns, and what part of the interpreter's the first one's is."""
     took: dict[tuple[str, int], list[float]] = {}
     for _ in range(25):
         for who, words in calls.items():
@@ -95,7 +114,7 @@ def eight_row(name: str, room: str, interpreter: Optional[str]) -> dict:
                 took.setdefault((who, ticks), []).append(run([*words, "--ticks", str(ticks)], (), keeps=False).seconds)
     least = {who: min(took[who, TICKS]) - min(took[who, 1]) for who in calls}
     ratio = round(least["here"] / least["interpreter"], 2) if least.get("interpreter", 0) > 0 else None
-    return {"eight threads": name, **{f"{who}, ms": round(1000 * it, 1) for who, it in least.items()}, "ratio": ratio}
+    return {**{f"{who}, ms": round(1000 * it, 1) for who, it in least.items()}, "ratio": ratio}
 
 
 def long_row(size: int, room: str) -> dict:

@@ -35,12 +35,34 @@ EIGHT = {
     "int main(void) { chan a, b, c, d; par { give(a); take(a); give(b); take(b); give(c); take(c); give(d); take(d); } return 0; }\n",
 }
 
+# Eight threads that wait, four by timers of their own and four for edges on wires of their own, each for so many ticks at a time.
+WAITS = (
+    "in port a = XS1_PORT_1A;\nin port b = XS1_PORT_1B;\nin port c = XS1_PORT_1C;\nin port d = XS1_PORT_1D;\n"
+    "void tick(unsigned step) { timer t; unsigned time = step; while (1) { t when timerafter(time) :> void; time += step; } }\n"
+    "void follow(in port wire) { int level = 0; while (1) wire when pinsneq(level) :> level; }\n"
+    "int main(void) { par { tick(STEP); tick(STEP + 1); tick(STEP + 2); tick(STEP + 3);"
+    " follow(a); follow(b); follow(c); follow(d); } return 0; }\n"
+)
+PACES = {"often": 30, "seldom": 20_000}
+
 # Right sides of assignments.
 EXPRESSIONS = (
     "x", "x + y", "x - 1", "-x", "!x", "x * y + 1", "x - (y - x)", "(x + y) * (x - y)", "x / y", "x >> 3", "x < y", "x <= y", "u >= v", "x && y",
     "x ? y : 5", "a[3]", "a[x]", "a[x + 1] + a[y]", "(x & 255) << 8 | (y ^ x) & 255", "x < y && y < 10 || !x",
 )  # fmt: skip
 DECLARED = "int x = 1; int y = 2; unsigned u = 3; unsigned v = 4; int a[8]; int z;"
+
+
+def waits(pace: str) -> str:
+    """The program of threads that wait at this pace."""
+    return f"#define STEP {PACES[pace]}\n{WAITS}"
+
+
+def edges(pace: str, ticks: int) -> str:
+    """The stimulus of its wires up to a tick: each changes at the multiples of its own number of ticks, which differ by one."""
+    steps = {wire: PACES[pace] + at for at, wire in enumerate("ABCD")}
+    found = sorted((tick, wire) for wire, step in steps.items() for tick in range(step, ticks + 1, step))
+    return "".join(f"{tick} 0 1{wire} {tick // steps[wire] % 2}\n" for tick, wire in found)
 
 
 def assignments() -> str:

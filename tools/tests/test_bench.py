@@ -10,6 +10,8 @@ import tempfile
 import unittest
 from datetime import datetime
 
+from traces.stimulus import read_stimulus
+
 from .samples import TOP, written
 
 sys.path.insert(0, os.path.join(TOP, "bench"))
@@ -208,6 +210,13 @@ class Texts(unittest.TestCase):
     def test_long_programs(self):
         for text in (xc.long_program(5000), xc.outputs(5000)):
             self.assertEqual((len(text), text[-12:]), (5000, "return 0; }\n"))
+
+    def test_waiting(self):
+        changes = ["20000 0 1A 1", "20001 0 1B 1", "20002 0 1C 1", "20003 0 1D 1", "40000 0 1A 0", "40002 0 1B 0"]
+        self.assertEqual(xc.edges("seldom", 40_003).splitlines(), changes)
+        read = read_stimulus(io.BytesIO(xc.edges("often", 200_000).encode()), "often")
+        self.assertEqual(len(read), sum(200_000 // step for step in range(30, 34)))
+        self.assertTrue(xc.waits("often").startswith("#define STEP 30\nin port a"))
 
 
 class Codes(unittest.TestCase):

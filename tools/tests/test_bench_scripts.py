@@ -96,7 +96,7 @@ class Scripts(unittest.TestCase):
     def test_help(self):
         """Each tells its words, and README has a row for each."""
         names = sorted(it.name for it in os.scandir(os.path.join(TOP, "bench")) if it.is_file() and "." not in it.name)
-        self.assertEqual(len(names), 14)
+        self.assertEqual(len(names), 15)
         for name in names:
             self.assertIn(f"usage: bench/{name} ", self.call(name, "--help"))
         self.assertEqual(sorted(re.findall(r"^\| `(\w+)", written(os.path.join(TOP, "bench", "README.md")), re.MULTILINE)), names)
@@ -174,6 +174,11 @@ class Scripts(unittest.TestCase):
         self.assertEqual((found["loops"][0]["here"], found["loops"][0]["its loop"]), (0, 2))
         self.assertEqual((found["long texts"][1]["bytes"], found["long texts"][1]["instructions"]), (262144, 2))
 
+    def test_waiting(self):
+        rows = self.tables("waiting")["eight threads"]
+        self.assertEqual([row["waits"] for row in rows], ["often", "seldom"])
+        self.assertIn("here, ms", rows[0])
+
     @unittest.skipUnless(shutil.which("cc") and shutil.which("gcc"), "there is no C compiler")
     def test_with_an_interpreter(self):
         """Which gcc compiles."""
@@ -183,6 +188,7 @@ class Scripts(unittest.TestCase):
         found = self.tables("programs", source)
         self.assertEqual(found["loops"][0]["interpreter's"], 320.0)
         self.assertIn("interpreter, ms", found["eight threads"][0])
+        self.assertEqual(self.tables("waiting", source)["eight threads"][0]["same trace"], "yes")
 
     @unittest.skipUnless(shutil.which("cc"), "there is no C compiler")
     def test_refuse_memory(self):
