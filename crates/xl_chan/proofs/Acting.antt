@@ -14,7 +14,7 @@ use Rattle.xs_instr.specs.declared.state.Regs.{Regs}
 use Rattle.xs_instr.specs.declared.state.Thread.{Thread}
 use Rattle.xs_instr.specs.declared.trace.Record.TheVariants.{Fault}
 use Rattle.xs_instr.specs.declared.trace.Trap.TheVariants.{Mismatch}
-use Rattle.xs_instr.specs.Did.{told}
+use Rattle.xs_instr.specs.Did.{map_did}
 use Rattle.xs_instr.specs.Ends.{control_token, ins_control, ins_word, outs, word_tokens}
 use Rattle.xs_instr.specs.Lines.{at_pos}
 use Rattle.xs_instr.specs.OwnSteps.{IsApart, StandAt}
@@ -44,26 +44,26 @@ module _ (home : Home) (t e : ℕ) (thread : Thread) (pos : Pos) (runs : thread.
     acts_word from v holds stands place = acts_by (sends (word_tokens v)) (Out r from) stands place refl (λ c end there turn.
         turn
         ∙ ap (out_row home c t th (reg_get regs from)) names
-        ∙ ap (λ x. told (goes_with put_ends c t th) (usable (outs home c.clock (word_tokens (reg_get regs from)) c.ends e) x)) there
-        ∙ ap (λ n. told (goes_with put_ends c t th) (outs home c.clock (word_tokens n) c.ends e end)) holds)
+        ∙ ap (λ x. map_did (goes_with put_ends c t th) (usable (outs home c.clock (word_tokens (reg_get regs from)) c.ends e) x)) there
+        ∙ ap (λ n. map_did (goes_with put_ends c t th) (outs home c.clock (word_tokens n) c.ends e end)) holds)
 
     pub acts_control : (control : ℕ) → slice_get home.parts.code.instrs index ≡ Some (Outct r control) → slice_get home.parts.code.«at» index ≡ Some pos → Acts home t e thread pos (sends (control_token control ∷ [])) index regs
     acts_control control stands place = acts_by (sends (control_token control ∷ [])) (Outct r control) stands place refl (λ c end there turn.
         turn
-        ∙ ap (λ n. told (goes_with put_ends c t th) (on_end c (outs home c.clock (control_token control ∷ []) c.ends) n)) names
-        ∙ ap (λ x. told (goes_with put_ends c t th) (usable (outs home c.clock (control_token control ∷ []) c.ends e) x)) there)
+        ∙ ap (λ n. map_did (goes_with put_ends c t th) (on_end c (outs home c.clock (control_token control ∷ []) c.ends) n)) names
+        ∙ ap (λ x. map_did (goes_with put_ends c t th) (usable (outs home c.clock (control_token control ∷ []) c.ends e) x)) there)
 
     pub acts_input : (to : Reg) → slice_get home.parts.code.instrs index ≡ Some (In to r) → slice_get home.parts.code.«at» index ≡ Some pos → Acts home t e thread pos (takes_word to) index regs
     acts_input to stands place = acts_by (takes_word to) (In to r) stands place refl (λ c end there turn.
         turn
         ∙ ap (in_row home c t th to (reg_get regs r)) names
-        ∙ ap (λ x. told (gets_with put_ends c t th to) (usable (ins_word home c.clock c.ends e) x)) there)
+        ∙ ap (λ x. map_did (gets_with put_ends c t th to) (usable (ins_word home c.clock c.ends e) x)) there)
 
     pub acts_check : (control : ℕ) → slice_get home.parts.code.instrs index ≡ Some (Chkct r control) → slice_get home.parts.code.«at» index ≡ Some pos → Acts home t e thread pos (takes control) index regs
     acts_check control stands place = acts_by (takes control) (Chkct r control) stands place refl (λ c end there turn.
         turn
-        ∙ ap (λ n. told (goes_with put_ends c t th) (on_end c (ins_control home c.clock control c.ends) n)) names
-        ∙ ap (λ x. told (goes_with put_ends c t th) (usable (ins_control home c.clock control c.ends e) x)) there)
+        ∙ ap (λ n. map_did (goes_with put_ends c t th) (on_end c (ins_control home c.clock control c.ends) n)) names
+        ∙ ap (λ x. map_did (goes_with put_ends c t th) (usable (ins_control home c.clock control c.ends e) x)) there)
 
   -- all of a question's, where r11 names the end
   pub question_by : (control : ℕ) (asks : Bool) (Q : ℕ → Regs → Type 0) (index : ℕ) (regs : Regs) → named home.number regs.r11 ≡ AnEnd e →

@@ -13,7 +13,7 @@ use Rattle.xs_instr.specs.declared.state.Thread.{Thread}
 use Rattle.xs_instr.specs.declared.state.Token.{Token}
 use Rattle.xs_instr.specs.declared.trace.Record.TheVariants.{Fault}
 use Rattle.xs_instr.specs.declared.trace.Trap.TheVariants.{Mismatch}
-use Rattle.xs_instr.specs.Did.{told}
+use Rattle.xs_instr.specs.Did.{map_did}
 use Rattle.xs_instr.specs.Ends.{control_token, ins_control, ins_word, outs, word_tokens}
 use Rattle.xs_instr.specs.Registers.{reg_set}
 use Rattle.xs_instr.specs.Rows.{gets_with, goes_with, put_ends}
@@ -83,11 +83,11 @@ module _ (home : Home) (t e : ℕ) (thread : Thread) (pos : Pos) where
   -- isn't there yet, takes it and goes on where it is, and traps with a mismatch where something else is there.
   abbrev pub Does : Act → (index : ℕ) → Regs → CoreState → ChanEnd → Type 0
   Does (sends tokens) index regs c end =
-      slot home c t ≡ told (goes_with put_ends c t (at_index thread index regs)) (outs home c.clock tokens c.ends e end)
+      slot home c t ≡ map_did (goes_with put_ends c t (at_index thread index regs)) (outs home c.clock tokens c.ends e end)
   Does (takes_word to) index regs c end =
-      slot home c t ≡ told (gets_with put_ends c t (at_index thread index regs) to) (ins_word home c.clock c.ends e end)
+      slot home c t ≡ map_did (gets_with put_ends c t (at_index thread index regs) to) (ins_word home c.clock c.ends e end)
   Does (takes control) index regs c end =
-      slot home c t ≡ told (goes_with put_ends c t (at_index thread index regs)) (ins_control home c.clock control c.ends e end)
+      slot home c t ≡ map_did (goes_with put_ends c t (at_index thread index regs)) (ins_control home c.clock control c.ends e end)
 
   -- in each core where the thread stands at an index with these registers and the end is there, its next step is this one; where it
   -- traps, it does so at `pos`

@@ -12,7 +12,7 @@ use Rattle.xs_instr.specs.declared.instr.Reg.{Reg}
 use Rattle.xs_instr.specs.declared.instr.Reg.TheVariants.{R0, R11}
 use Rattle.xs_instr.specs.declared.state.Regs.{Regs}
 use Rattle.xs_instr.specs.Registers.{reg_set}
-use Rattle.xs_instr.specs.Rows.{own_row, jumps_by, loads}
+use Rattle.xs_instr.specs.Rows.{local_row, jumps_by, loads}
 use Rattle.xs_instr.specs.Did.{makes}
 use Rattle.xs_instr.specs.Memory.{address_at, word_at}
 use Rattle.xc_kernel.specs.Values.{Value, word, error, of_two, of_both, truth_of}
@@ -235,7 +235,7 @@ module _ (code : Code) (relied : ℕ → Bool) (s : ℕ) (small : s + temporary 
     two_means = record { by = two_by }
 
     -- the second operand is passed over where the first one decides
-    module _ (middle : ℕ → Instr) (jumps : ℕ → Bool) (f : ℕ → Value) (plain : (target : ℕ) → IsPlain (middle target)) (turn : (target pc : ℕ) (regs : Regs) (ws : List ℕ) → own_row (own pc regs ws) (middle target) ≡ jumps_by (own pc regs ws) target (jumps regs.r0)) (decides : (a : ℕ) → jumps a ≡ true → f a ≡ truth_made a) (goes : (a : ℕ) → jumps a ≡ false → f a ≡ truth_of vb) where
+    module _ (middle : ℕ → Instr) (jumps : ℕ → Bool) (f : ℕ → Value) (plain : (target : ℕ) → IsPlain (middle target)) (turn : (target pc : ℕ) (regs : Regs) (ws : List ℕ) → local_row (own pc regs ws) (middle target) ≡ jumps_by (own pc regs ws) target (jumps regs.r0)) (decides : (a : ℕ) → jumps a ≡ true → f a ≡ truth_made a) (goes : (a : ℕ) → jumps a ≡ false → f a ≡ truth_of vb) where
       abbrev passed_code : ℕ → ℕ → Pos → List Line
       passed_code = short_code middle pos pa pb
 
@@ -286,7 +286,7 @@ module _ (code : Code) (relied : ℕ → Bool) (s : ℕ) (small : s + temporary 
               ready1 : Is_ready regs1 words1
               ready1 = ready_kept code relied s dp first k regs words regs1 words1 ready keeps1
 
-              step : (target : ℕ) (b : Bool) → jumps regs1.r0 ≡ b → (ws : List ℕ) → own_row (own pc1 regs1 ws) (middle pc2) ≡ jumps_by (own pc1 regs1 ws) pc2 b
+              step : (target : ℕ) (b : Bool) → jumps regs1.r0 ≡ b → (ws : List ℕ) → local_row (own pc1 regs1 ws) (middle pc2) ≡ jumps_by (own pc1 regs1 ws) pc2 b
               step target b e ws = turn pc2 pc1 regs1 ws ∙ ap (jumps_by (own pc1 regs1 ws) pc2) e
 
               truth_is : (v : Value) → bound v truth_made ≡ truth_of v

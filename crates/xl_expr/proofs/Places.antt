@@ -14,7 +14,7 @@ use Rattle.xs_instr.specs.declared.state.Regs.{Regs}
 use Rattle.xs_instr.specs.Did.{makes}
 use Rattle.xs_instr.specs.Memory.{address_at, word_at}
 use Rattle.xs_instr.specs.Registers.{reg_set}
-use Rattle.xs_instr.specs.Rows.{own_row, loads, passes_by}
+use Rattle.xs_instr.specs.Rows.{local_row, loads, passes_by}
 use Rattle.xc_kernel.specs.Plain as kernel
 use Rattle.xc_kernel.specs.Values.{Value, word, error, tested}
 use Rattle.xc_kernel.specs.Values.{tested_by as tested_by'}
@@ -120,7 +120,7 @@ module _ (code : Code) (relied : ℕ → Bool) (s : ℕ) (small : s + temporary 
       regs2 : Regs
       regs2 = reg_set regs1 R11 (truth (nat_lt regs.r0 len))
 
-      turn_is : (b : Bool) → nat_lt regs.r0 len ≡ b → (ws : List ℕ) → own_row (own (pc + 1 + 1) regs2 ws) (Ecallf R11) ≡ passes_by (own (pc + 1 + 1) regs2 ws) (not (nat_eq (truth b) 0))
+      turn_is : (b : Bool) → nat_lt regs.r0 len ≡ b → (ws : List ℕ) → local_row (own (pc + 1 + 1) regs2 ws) (Ecallf R11) ≡ passes_by (own (pc + 1 + 1) regs2 ws) (not (nat_eq (truth b) 0))
       turn_is b e ws = ap (λ (x : Bool). passes_by (own (pc + 1 + 1) regs2 ws) (not (nat_eq (truth x) 0))) e
 
       value_is : (b : Bool) → nat_lt regs.r0 len ≡ b → tested_by' i pos b ≡ tested i len pos
@@ -162,7 +162,7 @@ module _ (code : Code) (relied : ℕ → Bool) (s : ℕ) (small : s + temporary 
         ready2 : Is_ready regs2 words
         ready2 = ready_kept code relied s dp first k regs1 words regs2 words (ready_kept code relied s dp first k regs words regs1 words ready keeps1) keeps2
 
-        turn_is : (b : Bool) → nat_lt regs.r0 (length xs) ≡ b → (ws : List ℕ) → own_row (own (pc + 1 + 1) regs2 ws) (Ecallf R11) ≡ passes_by (own (pc + 1 + 1) regs2 ws) (not (nat_eq (truth b) 0))
+        turn_is : (b : Bool) → nat_lt regs.r0 (length xs) ≡ b → (ws : List ℕ) → local_row (own (pc + 1 + 1) regs2 ws) (Ecallf R11) ≡ passes_by (own (pc + 1 + 1) regs2 ws) (not (nat_eq (truth b) 0))
         turn_is b e ws = ap (λ (x : Bool). passes_by (own (pc + 1 + 1) regs2 ws) (not (nat_eq (truth x) 0))) e
 
         value_is : (b : Bool) → nat_lt regs.r0 (length xs) ≡ b → element_by xs pos i b ≡ element_by xs pos i (nat_lt i (length xs))

@@ -12,7 +12,7 @@ use Rattle.xs_instr.specs.declared.state.Regs.{Regs}
 use Rattle.xs_instr.specs.Did.{makes}
 use Rattle.xs_instr.specs.Memory.{address_at, word_at, word_by}
 use Rattle.xs_instr.specs.Registers.{reg_get, reg_set}
-use Rattle.xs_instr.specs.Rows.{Own, own_row, loads, stores, stores_at}
+use Rattle.xs_instr.specs.Rows.{Local, local_row, loads, stores, stores_at}
 use Rattle.xs_instr.specs.OwnSteps.{IsApart, IsWord, temporary}
 use Rattle.xc_kernel.specs.Values.{Value, word, error, ErrorKind}
 use Rattle.xl_expr.specs.Works.{is_scratch}
@@ -86,7 +86,7 @@ pub keeps_less : (s j k : ℕ) (r1 : Regs) (w1 : List ℕ) (r2 : Regs) (w2 : Lis
 keeps_less s j k r1 w1 r2 w2 le h = record { others = h.others; size = h.size; same = λ w e. h.same w (saved_less s j k w le e) }
 
 module _ (code : Code) (relied : ℕ → Bool) (s : ℕ) where
-  abbrev MyWay : ℕ → Own → Own → Type 0
+  abbrev MyWay : ℕ → Local → Local → Type 0
   MyWay = Way code relied (IsApart s)
 
   -- code leads from one index to another with a word in r0, within so many steps, or to where the next step traps
@@ -102,7 +102,7 @@ module _ (code : Code) (relied : ℕ → Bool) (s : ℕ) where
   pub record Stops (regs : Regs) (words : List ℕ) (pc most : ℕ) (kind : ErrorKind) (pos : Pos) : Type 0 where
     pub count : ℕ
     pub few : count ≤ most
-    pub there : Own
+    pub there : Local
     pub way : MyWay count (own pc regs words) there
     pub fails : Fails code relied (IsApart s) kind pos there
 
@@ -143,7 +143,7 @@ module _ (code : Code) (relied : ℕ → Bool) (s : ℕ) where
       looser regs words pc pc2 pc2 k k (h.count + n) (m + n) v refl (omega arith) (omega arith) (and_on h.count regs words h.regs' h.words' pc pc1 pc2 k n v h.way h.keeps (next h.regs' h.words' h.keeps h.value))
 
   -- a step that changes no word
-  pub by_quiet : (i : Instr) (regs regs' : Regs) (words : List ℕ) (pc pc' : ℕ) → slice_get code.instrs pc ≡ Some i → IsPlain i → ((ws : List ℕ) → Agree code relied (IsApart s) words ws → own_row (own pc regs ws) i ≡ makes (own pc' regs' ws)) → Sure code relied (IsApart s) (own pc regs words) (own pc' regs' words)
+  pub by_quiet : (i : Instr) (regs regs' : Regs) (words : List ℕ) (pc pc' : ℕ) → slice_get code.instrs pc ≡ Some i → IsPlain i → ((ws : List ℕ) → Agree code relied (IsApart s) words ws → local_row (own pc regs ws) i ≡ makes (own pc' regs' ws)) → Sure code relied (IsApart s) (own pc regs words) (own pc' regs' words)
   by_quiet i regs regs' words pc pc' stands plain turn = record { instr = i; stands = stands; plain = plain; goes = λ ws h. record { words = ws; made = turn ws h; agree = h; apart = λ w e. refl } }
 
   -- what the thread stands on: its own words from word s on, dp, and the words that no piece of code changes

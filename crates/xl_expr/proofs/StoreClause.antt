@@ -5,9 +5,9 @@ use Rattle.xs_instr.specs.declared.image.Home.{Home}
 use Rattle.xs_instr.specs.declared.instr.Reg.{Reg}
 use Rattle.xs_instr.specs.declared.state.CoreState.{CoreState}
 use Rattle.xs_instr.specs.declared.state.Thread.{Thread}
-use Rattle.xs_instr.specs.Did.{told}
+use Rattle.xs_instr.specs.Did.{map_did}
 use Rattle.xs_instr.specs.Registers.{reg_get}
-use Rattle.xs_instr.specs.Rows.{put_own}
+use Rattle.xs_instr.specs.Rows.{put_local}
 use Rattle.xs_instr.specs.OwnSteps.{IsApart, HasRoom, Kept, RunsAt, Within, temporary}
 use Rattle.xc_kernel.specs.Plain as kernel
 use Rattle.xc_kernel.specs.Values.{Value, word, error}
@@ -38,7 +38,7 @@ module _ (home : Home) (relied : ℕ → Bool) (s t : ℕ) (thread : Thread) (a 
         others = w.leaves.others;
         within = let r = room.within in let size = w.leaves.size in room_kept relied s room.relied_on w.words' c.words (omega arith) fc.words.by;
         words = λ x r h. fc.words.by x r ∙ w.leaves.same x h;
-        made = turn_is home.parts.code relied (IsApart s) home t thread at_work.runs at_work.no_events refl c (own w.index w.regs' w.words') w.instr fc w.stands w.plain ∙ ap (told (put_own c t (at_pc thread w.index w.regs'))) (w.turn c.words fc.words);
+        made = turn_is home.parts.code relied (IsApart s) home t thread at_work.runs at_work.no_events refl c (own w.index w.regs' w.words') w.instr fc w.stands w.plain ∙ ap (map_did (put_local c t (at_pc thread w.index w.regs'))) (w.turn c.words fc.words);
       }
 
   writes_reach : (pc' most v : ℕ) (val : Value) → WriteRuns home.parts.code relied s (small home relied s t thread a pc at_work room) room.relied_on thread.regs.dp a.words vars store (IsAddress vars relied s thread.regs.dp a.words place) thread.regs a.words pc pc' most v val → Reaches v pc' most val

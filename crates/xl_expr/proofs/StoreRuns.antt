@@ -14,7 +14,7 @@ use Rattle.xs_instr.specs.declared.state.Regs.{Regs}
 use Rattle.xs_instr.specs.Did.{makes}
 use Rattle.xs_instr.specs.Memory.{address_at, word_put}
 use Rattle.xs_instr.specs.Registers.{reg_get, reg_set}
-use Rattle.xs_instr.specs.Rows.{own_row, stores, stores_at}
+use Rattle.xs_instr.specs.Rows.{local_row, stores, stores_at}
 use Rattle.xc_kernel.specs.Plain as kernel
 use Rattle.xc_kernel.specs.Values.{Value, word, error, tested, tested_by}
 use Rattle.xc_kernel.specs.Eval.{Store, words_of, eval}
@@ -88,7 +88,7 @@ module _ (code : Code) (relied : ℕ → Bool) (s : ℕ) (small : s + temporary 
     pub instr : Instr
     pub stands : slice_get code.instrs index ≡ Some instr
     pub plain : IsPlain instr
-    pub turn : (ws : List ℕ) → Agree code relied (IsApart s) words' ws → own_row (own index regs' ws) instr ≡ makes (own pc' regs' (word_put ws address v))
+    pub turn : (ws : List ℕ) → Agree code relied (IsApart s) words' ws → local_row (own index regs' ws) instr ≡ makes (own pc' regs' (word_put ws address v))
     pub leaves : Leaves regs words regs' words'
 
   abbrev pub WriteRuns : (ℕ → ℕ → Type 0) → Regs → List ℕ → ℕ → ℕ → ℕ → ℕ → Value → Type 0

@@ -13,9 +13,9 @@ use Rattle.xs_instr.specs.declared.instr.Reg.TheVariants.{R0, R11}
 use Rattle.xs_instr.specs.declared.state.CoreState.{CoreState}
 use Rattle.xs_instr.specs.declared.state.Regs.{Regs}
 use Rattle.xs_instr.specs.declared.state.Thread.{Thread}
-use Rattle.xs_instr.specs.Did.{makes, told, Traps}
+use Rattle.xs_instr.specs.Did.{makes, map_did, Traps}
 use Rattle.xs_instr.specs.Registers.{reg_get, reg_set}
-use Rattle.xs_instr.specs.Rows.{own_of, own_row, put_own, row, sets_where}
+use Rattle.xs_instr.specs.Rows.{local_of, local_row, put_local, row, sets_where}
 use Rattle.xs_instr.specs.Slot.{is_waiteu}
 use Rattle.xs_instr.specs.OwnSteps.{IsApart, StandAt}
 use Rattle.xc_kernel.specs.Values.{Value, word, error, ErrorKind, arithmetic, index, of_one, of_two, divided, tested_by}
@@ -31,8 +31,8 @@ use Rattle.xl_expr.proofs.Runs.{Runs, Keeps, r0_alone, r11_alone, done, looser, 
 -- instructions on r0 and r11 from these registers on: the word that they leave in r0, or the error by which one traps
 pub data Tail (pos : Pos) : List Instr → Regs → Value → Type 0 where
   ends : (regs : Regs) (v : ℕ) (h : regs.r0 ≡ v) → Tail pos [] regs (word v)
-  goes : (i : Instr) (is : List Instr) (regs regs' : Regs) (val : Value) (plain : IsPlain i) (turn : (pc : ℕ) (ws : List ℕ) → own_row (own pc regs ws) i ≡ makes (own (pc + 1) regs' ws)) (others : (r : Reg) → is_scratch r ≡ false → reg_get regs' r ≡ reg_get regs r) (more : Tail pos is regs' val) → Tail pos (i ∷ is) regs val
-  traps : (i : Instr) (is : List Instr) (regs : Regs) (kind : ErrorKind) (plain : IsPlain i) (turn : (pc : ℕ) (ws : List ℕ) → own_row (own pc regs ws) i ≡ Traps (trap_of kind)) → Tail pos (i ∷ is) regs (error kind pos)
+  goes : (i : Instr) (is : List Instr) (regs regs' : Regs) (val : Value) (plain : IsPlain i) (turn : (pc : ℕ) (ws : List ℕ) → local_row (own pc regs ws) i ≡ makes (own (pc + 1) regs' ws)) (others : (r : Reg) → is_scratch r ≡ false → reg_get regs' r ≡ reg_get regs r) (more : Tail pos is regs' val) → Tail pos (i ∷ is) regs val
+  traps : (i : Instr) (is : List Instr) (regs : Regs) (kind : ErrorKind) (plain : IsPlain i) (turn : (pc : ℕ) (ws : List ℕ) → local_row (own pc regs ws) i ≡ Traps (trap_of kind)) → Tail pos (i ∷ is) regs (error kind pos)
 
 -- they stand in the code
 module _ (code : Code) (relied : ℕ → Bool) (s : ℕ) (pos : Pos) where
@@ -46,18 +46,18 @@ module _ (code : Code) (relied : ℕ → Bool) (s : ℕ) (pos : Pos) where
   tail_runs all first given (traps i is regs kind p turn) words pc k st =
       record { count = 0; few = omega arith; there = own pc regs words; way = refl; fails = record { instr = i; stands = st.0; place = st.1; plain = p; traps = λ ws g. turn pc ws } }
 
-plain : (i : Instr) → ((home : Home) (core : CoreState) (t : ℕ) (thread : Thread) → row home core t thread i ≡ told (put_own core t thread) (own_row (own_of core thread) i)) → is_waiteu (Some i) ≡ false → IsPlain i
+plain : (i : Instr) → ((home : Home) (core : CoreState) (t : ℕ) (thread : Thread) → row home core t thread i ≡ map_did (put_local core t thread) (local_row (local_of core thread) i)) → is_waiteu (Some i) ≡ false → IsPlain i
 plain i h e = record { row_is = h; no_event = e }
 
 module _ (pos : Pos) where
-  set0 : (i : Instr) (is : List Instr) (regs : Regs) (v : ℕ) (val : Value) → IsPlain i → ((pc : ℕ) (ws : List ℕ) → own_row (own pc regs ws) i ≡ makes (own (pc + 1) (reg_set regs R0 v) ws)) → Tail pos is (reg_set regs R0 v) val → Tail pos (i ∷ is) regs val
+  set0 : (i : Instr) (is : List Instr) (regs : Regs) (v : ℕ) (val : Value) → IsPlain i → ((pc : ℕ) (ws : List ℕ) → local_row (own pc regs ws) i ≡ makes (own (pc + 1) (reg_set regs R0 v) ws)) → Tail pos is (reg_set regs R0 v) val → Tail pos (i ∷ is) regs val
   set0 i is regs v val p turn more = goes i is regs (reg_set regs R0 v) val p turn (r0_alone regs v) more
 
-  set11 : (i : Instr) (is : List Instr) (regs : Regs) (v : ℕ) (val : Value) → IsPlain i → ((pc : ℕ) (ws : List ℕ) → own_row (own pc regs ws) i ≡ makes (own (pc + 1) (reg_set regs R11 v) ws)) → Tail pos is (reg_set regs R11 v) val → Tail pos (i ∷ is) regs val
+  set11 : (i : Instr) (is : List Instr) (regs : Regs) (v : ℕ) (val : Value) → IsPlain i → ((pc : ℕ) (ws : List ℕ) → local_row (own pc regs ws) i ≡ makes (own (pc + 1) (reg_set regs R11 v) ws)) → Tail pos is (reg_set regs R11 v) val → Tail pos (i ∷ is) regs val
   set11 i is regs v val p turn more = goes i is regs (reg_set regs R11 v) val p turn (r11_alone regs v) more
 
   -- one instruction gives the word
-  last0 : (i : Instr) (regs : Regs) (v : ℕ) → IsPlain i → ((pc : ℕ) (ws : List ℕ) → own_row (own pc regs ws) i ≡ makes (own (pc + 1) (reg_set regs R0 v) ws)) → Tail pos (i ∷ []) regs (word v)
+  last0 : (i : Instr) (regs : Regs) (v : ℕ) → IsPlain i → ((pc : ℕ) (ws : List ℕ) → local_row (own pc regs ws) i ≡ makes (own (pc + 1) (reg_set regs R0 v) ws)) → Tail pos (i ∷ []) regs (word v)
   last0 i regs v p turn = set0 i [] regs v (word v) p turn (ends (reg_set regs R0 v) v refl)
 
   ldc_plain : (d : Reg) (n : ℕ) → IsPlain (Ldc d n)
@@ -85,11 +85,11 @@ module _ (pos : Pos) where
   truth_not false = refl
 
   -- a first instruction gives a truth value, which is turned
-  turned : (i : Instr) (regs : Regs) (b : Bool) → IsPlain i → ((pc : ℕ) (ws : List ℕ) → own_row (own pc regs ws) i ≡ makes (own (pc + 1) (reg_set regs R0 (truth b)) ws)) → Tail pos (i ∷ negated) regs (word (truth (not b)))
+  turned : (i : Instr) (regs : Regs) (b : Bool) → IsPlain i → ((pc : ℕ) (ws : List ℕ) → local_row (own pc regs ws) i ≡ makes (own (pc + 1) (reg_set regs R0 (truth b)) ws)) → Tail pos (i ∷ negated) regs (word (truth (not b)))
   turned i regs b p turn = set0 i negated regs (truth b) (word (truth (not b))) p turn (subst (λ n. Tail pos negated (reg_set regs R0 (truth b)) (word n)) (truth_not b) (negated_tail (reg_set regs R0 (truth b))))
 
   -- a quotient or a remainder, where there is one
-  divided_tail : (i : Instr) (regs : Regs) → IsPlain i → (o : Option ℕ) → ((pc : ℕ) (ws : List ℕ) → own_row (own pc regs ws) i ≡ sets_where (own pc regs ws) R0 o) → Tail pos (i ∷ []) regs (divided pos o)
+  divided_tail : (i : Instr) (regs : Regs) → IsPlain i → (o : Option ℕ) → ((pc : ℕ) (ws : List ℕ) → local_row (own pc regs ws) i ≡ sets_where (own pc regs ws) R0 o) → Tail pos (i ∷ []) regs (divided pos o)
   divided_tail i regs p (Some v) turn = last0 i regs v p turn
   divided_tail i regs p None turn = traps i [] regs arithmetic p turn
 

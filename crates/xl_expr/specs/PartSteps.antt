@@ -9,7 +9,7 @@ use Rattle.xs_instr.specs.declared.state.Thread.{Thread}
 use Rattle.xs_instr.specs.declared.state.Timer.{Timer}
 use Rattle.xs_instr.specs.Did.{makes}
 use Rattle.xs_instr.specs.OwnSteps.{Kept}
-use Rattle.xs_instr.specs.Rows.{Own, put_own}
+use Rattle.xs_instr.specs.Rows.{Local, put_local}
 use Rattle.xs_instr.specs.Slot.{slot}
 use Rattle.xl_expr.specs.Leads.{Leads}
 use Rattle.xl_expr.specs.ResourceParts.{OtherPartsStay, OwnPartsStay}
@@ -24,12 +24,12 @@ pub record KeptParts (relied : ℕ → Bool) (mine : Res → Type 0) (t : ℕ) (
 pub record PartsStep (home : Home) (leaves : ℕ → Type 0) (mine : Res → Type 0) (t : ℕ) (a b : CoreState) : Type 0 where
   pub thread : Thread
   pub here : slice_get a.threads t ≡ Some thread
-  pub after : Own
+  pub after : Local
   pub ports : List Port
   pub timers : List Timer
   pub events : Events
   pub made : slot home a t ≡ makes b
-  pub left : b ≡ record (put_own a t thread after) { ports = ports; timers = timers; events = events }
+  pub left : b ≡ record (put_local a t thread after) { ports = ports; timers = timers; events = events }
   pub words : (w : ℕ) → leaves w → slice_get after.words w ≡ slice_get a.words w
   pub resources : OtherPartsStay mine t a b
 

@@ -12,7 +12,7 @@ use Rattle.xs_instr.specs.declared.state.Thread.{Thread}
 use Rattle.xs_instr.specs.Did.{makes}
 use Rattle.xs_instr.specs.Memory.{address_at, word_put}
 use Rattle.xs_instr.specs.Registers.{reg_get}
-use Rattle.xs_instr.specs.Rows.{put_own}
+use Rattle.xs_instr.specs.Rows.{put_local}
 use Rattle.xs_instr.specs.Slot.{slot}
 use Rattle.xc_kernel.specs.Plain as kernel
 use Rattle.xc_kernel.specs.Values.{Value, word, error, tested}
@@ -118,7 +118,7 @@ pub record Writes (home : Home) (relied : ℕ → Bool) (s t : ℕ) (thread : Th
   pub others : (r : Reg) → is_working r ≡ false → reg_get regs r ≡ reg_get thread.regs r
   pub within : s + temporary ≤ length b.words
   pub words : (w : ℕ) → relied w ≡ true → IsApart s w → slice_get b.words w ≡ slice_get old w
-  pub made : slot home b t ≡ makes (put_own b t (record thread { pc = index; regs = regs }) (record { pc = pc; regs = regs; words = word_put b.words address v }))
+  pub made : slot home b t ≡ makes (put_local b t (record thread { pc = index; regs = regs }) (record { pc = pc; regs = regs; words = word_put b.words address v }))
 
 abbrev pub StoreOutcome : List (Option VarPlan) → Home → (ℕ → Bool) → ℕ → ℕ → Thread → List ℕ → kernel.Place → ℕ → ℕ → Value → CoreState → Type 0
 StoreOutcome vars home relied s t thread old place v pc (word i) b =

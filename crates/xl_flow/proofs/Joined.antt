@@ -8,9 +8,9 @@ use Rattle.xs_instr.specs.declared.instr.Reg.{Reg}
 use Rattle.xs_instr.specs.declared.instr.Reg.TheVariants.{R0, R11, Dp, Sp}
 use Rattle.xs_instr.specs.declared.state.CoreState.{CoreState}
 use Rattle.xs_instr.specs.declared.state.Thread.{Thread}
-use Rattle.xs_instr.specs.Did.{told, makes}
+use Rattle.xs_instr.specs.Did.{map_did, makes}
 use Rattle.xs_instr.specs.Registers.{reg_get}
-use Rattle.xs_instr.specs.Rows.{put_own, jumps_by}
+use Rattle.xs_instr.specs.Rows.{put_local, jumps_by}
 use Rattle.xc_kernel.specs.Plain as kernel
 use Rattle.xc_kernel.specs.Values.{Value, word, error}
 use Rattle.xc_kernel.specs.Eval.{Store, eval}
@@ -127,11 +127,11 @@ module _ (vars : List (Option VarPlan)) (x : kernel.Expression) (pc : ℕ) (plac
           words = λ w r e. k.words w r ∙ g.words w r e;
           made =
               turn_is home.parts.code relied (IsApart s) home t thread at_work.runs at_work.no_events refl c o (Brff R0 target) fits behind.0 plain
-              ∙ ap (λ n. told (put_own c t th) (jumps_by o target (nat_eq n 0))) g.value
+              ∙ ap (λ n. map_did (put_local c t th) (jumps_by o target (nat_eq n 0))) g.value
               ∙ by_test (nat_eq v 0);
         }
       where
-        by_test : (z : Bool) → told (put_own c t (record thread { pc = pc + length ls; regs = g.regs })) (jumps_by (own (pc + length ls) g.regs c.words) target z) ≡ makes (put_own c t (record thread { pc = pc + length ls; regs = g.regs }) (own (chosen target (pc + length ls + 1) z) g.regs c.words))
+        by_test : (z : Bool) → map_did (put_local c t (record thread { pc = pc + length ls; regs = g.regs })) (jumps_by (own (pc + length ls) g.regs c.words) target z) ≡ makes (put_local c t (record thread { pc = pc + length ls; regs = g.regs }) (own (chosen target (pc + length ls + 1) z) g.regs c.words))
         by_test true = refl
         by_test false = refl
 

@@ -10,12 +10,12 @@ use Rattle.xs_instr.specs.declared.instr.Reg.TheVariants.{R0, R10, R11}
 use Rattle.xs_instr.specs.declared.state.CoreState.{CoreState}
 use Rattle.xs_instr.specs.declared.state.Regs.{Regs}
 use Rattle.xs_instr.specs.declared.state.Thread.{Thread}
-use Rattle.xs_instr.specs.Did.{makes, told}
+use Rattle.xs_instr.specs.Did.{makes, map_did}
 use Rattle.xs_instr.specs.Lines.{at_pos}
 use Rattle.xs_instr.specs.Memory.{address_at, word_at, word_put}
 use Rattle.xs_instr.specs.OwnSteps.{Kept, RunsAt, StandAt, Within}
 use Rattle.xs_instr.specs.Registers.{reg_get, reg_set}
-use Rattle.xs_instr.specs.Rows.{own_row, put_own, stores_at}
+use Rattle.xs_instr.specs.Rows.{local_row, put_local, stores_at}
 use Rattle.xl_expr.specs.declared.plan.VarAt.{VarAt}
 use Rattle.xl_expr.specs.declared.plan.VarAt.TheVariants.{Near, Far, Through}
 use Rattle.xl_expr.specs.declared.plan.VarPlan.{VarPlan}
@@ -33,7 +33,7 @@ module _ (write : ℕ → List Instr) (pos : Pos) (k pc : ℕ) where
   writes_end = omega (arith, ap length (at_pos-append pos (writes write k) (write k)), length-append (at_pos pos (writes write k)) (at_pos pos (write k)))
 
 -- what the store of a far word does
-far_turn : (index k base : ℕ) (regs : Regs) (ws : List ℕ) → regs.r0 ≡ 0 → regs.r11 ≡ base → own_row (own index (reg_set regs R10 k) ws) (Stw R0 R11 R10) ≡ stores_at (own index (reg_set regs R10 k) ws) 0 (address_at base k)
+far_turn : (index k base : ℕ) (regs : Regs) (ws : List ℕ) → regs.r0 ≡ 0 → regs.r11 ≡ base → local_row (own index (reg_set regs R10 k) ws) (Stw R0 R11 R10) ≡ stores_at (own index (reg_set regs R10 k) ws) 0 (address_at base k)
 far_turn index k base regs ws r0_is r11_is =
     ap (λ v. stores_at (own index (reg_set regs R10 k) ws) v (address_at regs.r11 k)) r0_is
     ∙ ap (λ b. stores_at (own index (reg_set regs R10 k) ws) 0 (address_at b k)) r11_is
@@ -49,7 +49,7 @@ module _ (home : Home) (relied : ℕ → Bool) (t base k pc : ℕ) (last : Pos) 
   last_there = still_there a.words address (suc k) stand.there k k (omega arith) (omega arith)
 
   -- at the last store
-  module _ (index pc' : ℕ) (regs : Regs) (i : Instr) (ends : index + 1 ≡ pc') (others : (r : Reg) → is_working r ≡ false → reg_get regs r ≡ reg_get thread.regs r) (stands : slice_get home.parts.code.instrs index ≡ Some i) (plain : IsPlain i) (turn : (ws : List ℕ) → own_row (own index regs ws) i ≡ stores_at (own index regs ws) 0 (address k)) where
+  module _ (index pc' : ℕ) (regs : Regs) (i : Instr) (ends : index + 1 ≡ pc') (others : (r : Reg) → is_working r ≡ false → reg_get regs r ≡ reg_get thread.regs r) (stands : slice_get home.parts.code.instrs index ≡ Some i) (plain : IsPlain i) (turn : (ws : List ℕ) → local_row (own index regs ws) i ≡ stores_at (own index regs ws) 0 (address k)) where
     writes_last : (b : CoreState) → Fits home.parts.code relied (IsOutside base (suc k)) t thread (own index regs all_but_last) b → (c : CoreState) → Kept relied t b c → WritesLast home relied t thread a.words base k pc' c
     writes_last b fb c kept =
         let f = fits_kept home.parts.code relied (IsOutside base (suc k)) t thread (own index regs all_but_last) b c fb kept in
@@ -65,8 +65,8 @@ module _ (home : Home) (relied : ℕ → Bool) (t base k pc : ℕ) (last : Pos) 
           kept = λ w r outside. f.words.by w r ∙ outside_kept a.words address k w (λ j lt. outside j (omega arith));
           made =
               turn_is home.parts.code relied (IsOutside base (suc k)) home t thread at_work.runs at_work.no_events refl c (own index regs all_but_last) i f stands plain
-              ∙ ap (told (put_own c t th)) (store_made home.parts.code relied (IsOutside base (suc k)) i index regs all_but_last (address k) last_there.0 (stand.relied_on k (omega arith)) last_there.1 turn c.words f.words)
-              ∙ ap (λ p. makes (put_own c t th (own p regs (word_put c.words (address k) 0)))) ends;
+              ∙ ap (map_did (put_local c t th)) (store_made home.parts.code relied (IsOutside base (suc k)) i index regs all_but_last (address k) last_there.0 (stand.relied_on k (omega arith)) last_there.1 turn c.words f.words)
+              ∙ ap (λ p. makes (put_local c t th (own p regs (word_put c.words (address k) 0)))) ends;
         }
 
   abbrev Last : ℕ → CoreState → Type 0

@@ -11,7 +11,7 @@ use Rattle.xs_instr.specs.declared.state.Regs.{Regs}
 use Rattle.xs_instr.specs.Did.{makes}
 use Rattle.xs_instr.specs.Memory.{word_at, word_by, word_put}
 use Rattle.xs_instr.specs.OwnSteps.{StandAt}
-use Rattle.xs_instr.specs.Rows.{own_row, stores, stores_at}
+use Rattle.xs_instr.specs.Rows.{local_row, stores, stores_at}
 use Rattle.xl_expr.proofs.Emitted.{at_pos-append}
 use Rattle.xl_expr.proofs.Lists.{get_set_same, get_set_other, get_set_both, stand_front, stand_back, word_by_same}
 use Rattle.xl_expr.proofs.Ways.{own, Agree, IsPlain, Sure, Way, way_on}
@@ -100,12 +100,12 @@ outside_kept memory address (suc n) w h =
 
 module _ (code : Code) (relied : ℕ → Bool) (leaves : ℕ → Type 0) where
   -- what a store of a 0 makes
-  pub store_made : (i : Instr) (pc : ℕ) (regs : Regs) (words : List ℕ) (address x : ℕ) → relied (address / 4) ≡ true → word_at words address ≡ Some x → ((ws : List ℕ) → own_row (own pc regs ws) i ≡ stores_at (own pc regs ws) 0 address) → (ws : List ℕ) → Agree code relied leaves words ws → own_row (own pc regs ws) i ≡ makes (own (pc + 1) regs (word_put ws address 0))
+  pub store_made : (i : Instr) (pc : ℕ) (regs : Regs) (words : List ℕ) (address x : ℕ) → relied (address / 4) ≡ true → word_at words address ≡ Some x → ((ws : List ℕ) → local_row (own pc regs ws) i ≡ stores_at (own pc regs ws) 0 address) → (ws : List ℕ) → Agree code relied leaves words ws → local_row (own pc regs ws) i ≡ makes (own (pc + 1) regs (word_put ws address 0))
   store_made i pc regs words address x relied_on there turn ws g =
       turn ws ∙ ap (stores (own pc regs ws) 0 address) (word_by_same words ws address (nat_eq (address % 4) 0) (g.by (address / 4) relied_on) ∙ there)
 
   -- one store of a 0
-  pub store_sure : (i : Instr) (pc : ℕ) (regs : Regs) (words : List ℕ) (address x : ℕ) → slice_get code.instrs pc ≡ Some i → IsPlain i → relied (address / 4) ≡ true → word_at words address ≡ Some x → ((ws : List ℕ) → own_row (own pc regs ws) i ≡ stores_at (own pc regs ws) 0 address) → ((w : ℕ) → leaves w → w ≢ address / 4) → Sure code relied leaves (own pc regs words) (own (pc + 1) regs (word_put words address 0))
+  pub store_sure : (i : Instr) (pc : ℕ) (regs : Regs) (words : List ℕ) (address x : ℕ) → slice_get code.instrs pc ≡ Some i → IsPlain i → relied (address / 4) ≡ true → word_at words address ≡ Some x → ((ws : List ℕ) → local_row (own pc regs ws) i ≡ stores_at (own pc regs ws) 0 address) → ((w : ℕ) → leaves w → w ≢ address / 4) → Sure code relied leaves (own pc regs words) (own (pc + 1) regs (word_put words address 0))
   store_sure i pc regs words address x stands plain relied_on there turn outside = record {
     instr = i;
     stands = stands;
@@ -121,7 +121,7 @@ module _ (code : Code) (relied : ℕ → Bool) (leaves : ℕ → Type 0) where
         };
   }
 
-  pub quiet_sure : (i : Instr) (regs regs' : Regs) (words : List ℕ) (pc : ℕ) → slice_get code.instrs pc ≡ Some i → IsPlain i → ((ws : List ℕ) → Agree code relied leaves words ws → own_row (own pc regs ws) i ≡ makes (own (pc + 1) regs' ws)) → Sure code relied leaves (own pc regs words) (own (pc + 1) regs' words)
+  pub quiet_sure : (i : Instr) (regs regs' : Regs) (words : List ℕ) (pc : ℕ) → slice_get code.instrs pc ≡ Some i → IsPlain i → ((ws : List ℕ) → Agree code relied leaves words ws → local_row (own pc regs ws) i ≡ makes (own (pc + 1) regs' ws)) → Sure code relied leaves (own pc regs words) (own (pc + 1) regs' words)
   quiet_sure i regs regs' words pc stands plain turn = record { instr = i; stands = stands; plain = plain; goes = λ ws h. record { words = ws; made = turn ws h; agree = h; apart = λ w e. refl } }
 
   -- the code of one word, whatever stands there, from registers of which Ready holds to such

@@ -10,7 +10,7 @@ use Rattle.xs_instr.specs.declared.state.Regs.{Regs}
 use Rattle.xs_instr.specs.declared.state.Thread.{Thread}
 use Rattle.xs_instr.specs.Did.{makes}
 use Rattle.xs_instr.specs.Registers.{reg_get}
-use Rattle.xs_instr.specs.Rows.{put_own}
+use Rattle.xs_instr.specs.Rows.{put_local}
 use Rattle.xs_instr.specs.Slot.{slot}
 use Rattle.xc_kernel.specs.Plain as kernel
 use Rattle.xc_kernel.specs.Values.{Value, word, error}
@@ -47,7 +47,7 @@ pub record Branches (home : Home) (relied : ℕ → Bool) (s t : ℕ) (thread : 
   pub others : (r : Reg) → is_scratch r ≡ false → reg_get regs r ≡ reg_get thread.regs r
   pub within : s + temporary ≤ length b.words
   pub words : (w : ℕ) → relied w ≡ true → IsApart s w → slice_get b.words w ≡ slice_get old w
-  pub made : slot home b t ≡ makes (put_own b t (record thread { pc = index; regs = regs }) (record { pc = pc; regs = regs; words = b.words }))
+  pub made : slot home b t ≡ makes (put_local b t (record thread { pc = index; regs = regs }) (record { pc = pc; regs = regs; words = b.words }))
 
 abbrev pub chosen : ℕ → ℕ → Bool → ℕ
 chosen target next true = target

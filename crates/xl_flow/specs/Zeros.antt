@@ -14,7 +14,7 @@ use Rattle.xs_instr.specs.Lines.{Line, at_pos}
 use Rattle.xs_instr.specs.Memory.{address_at, word_at, word_put}
 use Rattle.xs_instr.specs.OwnSteps.{Kept, RunsAt, StandAt, Within}
 use Rattle.xs_instr.specs.Registers.{reg_get}
-use Rattle.xs_instr.specs.Rows.{put_own}
+use Rattle.xs_instr.specs.Rows.{put_local}
 use Rattle.xs_instr.specs.Slot.{slot}
 use Rattle.xl_expr.specs.declared.plan.VarAt.{VarAt}
 use Rattle.xl_expr.specs.declared.plan.VarAt.TheVariants.{Near, Far, Through}
@@ -90,7 +90,7 @@ pub record WritesLast
   pub others : (r : Reg) → is_working r ≡ false → reg_get regs r ≡ reg_get thread.regs r
   pub kept : (w : ℕ) → relied w ≡ true → IsOutside base (last + 1) w → slice_get b.words w ≡ slice_get old w
   pub made : slot home b t ≡
-      makes (put_own b t (record thread { pc = index; regs = regs })
+      makes (put_local b t (record thread { pc = index; regs = regs })
       (record { pc = pc; regs = regs; words = word_put b.words (address_at base last) 0 }))
 
 -- The lines set a variable's words to 0: wherever they stand, and whatever other threads do in between, the thread comes within two

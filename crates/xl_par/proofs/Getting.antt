@@ -11,14 +11,14 @@ use Rattle.xs_instr.specs.declared.state.CoreState.{CoreState}
 use Rattle.xs_instr.specs.declared.state.Mode.TheVariants.{Unused, Waiting, Running}
 use Rattle.xs_instr.specs.declared.state.Regs.{Regs}
 use Rattle.xs_instr.specs.declared.state.Thread.{Thread}
-use Rattle.xs_instr.specs.Did.{told, makes}
+use Rattle.xs_instr.specs.Did.{map_did, makes}
 use Rattle.xw_words.specs.declared.pos.Pos.{Pos}
 use Rattle.xs_instr.specs.Lines.{Line, at_pos, line}
 use Rattle.xs_instr.specs.OwnSteps.{StandAt}
 use Rattle.xs_instr.specs.Pool.{first_free, is_tied, is_waiting, prepared, prepared_by, thread_got, thread_got_by, threads_taken, tied_at, tied_to, with_pc, with_reg}
 use Rattle.xs_instr.specs.Registers.{reg_set}
 use Rattle.xs_instr.specs.Resources.{ASync, AThread, named, on_sync, on_thread, thread_name, usable, where_taken}
-use Rattle.xs_instr.specs.Rows.{gets_with, goes_on, goes_with, own_row, put_own, put_threads, row}
+use Rattle.xs_instr.specs.Rows.{gets_with, goes_on, goes_with, local_row, put_local, put_threads, row}
 use Rattle.xs_instr.specs.Slot.{is_waiteu, slot}
 use Rattle.xl_expr.proofs.Lists.{get_set_other, get_set_same}
 use Rattle.xl_expr.proofs.Ways.{IsPlain, at_pc, own, turn_row}
@@ -152,7 +152,7 @@ module _ (home : Home) (relied : ℕ → Bool) (t : ℕ) (thread : Thread) (runn
     hand1 = with_thread_got hand u
 
     -- a step that prepares that thread
-    half_prepares : (x : Thread) (change : Thread → Thread) (pc k : ℕ) (regs : Regs) (i : Instr) → slice_get home.parts.code.instrs pc ≡ Some i → is_waiteu (Some i) ≡ false → (change x).mode ≡ Waiting → (change x).tie ≡ x.tie → (change x).event_bit ≡ x.event_bit → ((b : CoreState) → row home b t (th pc regs) i ≡ told (goes_with put_threads b t (th pc regs)) (on_thread b (prepared change b.threads) (named home.number regs.r0))) → ((d : CoreState) → Half hand starts u (change x) (pc + 1) regs d → WithinHand home relied t Q k hand1 d) → (a : CoreState) → Half hand starts u x pc regs a → WithinHand home relied t Q (suc k) hand1 a
+    half_prepares : (x : Thread) (change : Thread → Thread) (pc k : ℕ) (regs : Regs) (i : Instr) → slice_get home.parts.code.instrs pc ≡ Some i → is_waiteu (Some i) ≡ false → (change x).mode ≡ Waiting → (change x).tie ≡ x.tie → (change x).event_bit ≡ x.event_bit → ((b : CoreState) → row home b t (th pc regs) i ≡ map_did (goes_with put_threads b t (th pc regs)) (on_thread b (prepared change b.threads) (named home.number regs.r0))) → ((d : CoreState) → Half hand starts u (change x) (pc + 1) regs d → WithinHand home relied t Q k hand1 d) → (a : CoreState) → Half hand starts u x pc regs a → WithinHand home relied t Q (suc k) hand1 a
     half_prepares x change pc k regs i stands no_event still_waits still_tied same_bit is_row next a h = inr (λ b kept.
         let hb = half_kept hand starts u x pc regs a b kept h in
         let before = th pc regs in
@@ -172,9 +172,9 @@ module _ (home : Home) (relied : ℕ → Bool) (t : ℕ) (thread : Thread) (runn
             made =
                 turn b pc regs i hb.common.here stands no_event
                 ∙ is_row b
-                ∙ ap (λ m. told goes (on_thread b (prepared change b.threads) m)) name
-                ∙ ap (λ o. told goes (usable (prepared change b.threads u) o)) hb.there
-                ∙ ap (λ m. told goes (prepared_by change b.threads u x (is_waiting m))) hb.waits;
+                ∙ ap (λ m. map_did goes (on_thread b (prepared change b.threads) m)) name
+                ∙ ap (λ o. map_did goes (usable (prepared change b.threads u) o)) hb.there
+                ∙ ap (λ m. map_did goes (prepared_by change b.threads u x (is_waiting m))) hb.waits;
             change = prepares u x x' (inl refl) hb.there hb.waits still_waits still_tied same_bit refl refl;
           },
           next d (record {
@@ -202,19 +202,19 @@ module _ (home : Home) (relied : ℕ → Bool) (t : ℕ) (thread : Thread) (runn
         ))
 
     -- a step that changes registers alone
-    half_steps : (x : Thread) (pc k : ℕ) (regs : Regs) (v : ℕ) (i : Instr) → slice_get home.parts.code.instrs pc ≡ Some i → IsPlain i → ((ws : List ℕ) → own_row (own pc regs ws) i ≡ makes (own (pc + 1) (reg_set regs R11 v) ws)) → ((d : CoreState) → Half hand starts u x (pc + 1) (reg_set regs R11 v) d → WithinHand home relied t Q k hand1 d) → (a : CoreState) → Half hand starts u x pc regs a → WithinHand home relied t Q (suc k) hand1 a
+    half_steps : (x : Thread) (pc k : ℕ) (regs : Regs) (v : ℕ) (i : Instr) → slice_get home.parts.code.instrs pc ≡ Some i → IsPlain i → ((ws : List ℕ) → local_row (own pc regs ws) i ≡ makes (own (pc + 1) (reg_set regs R11 v) ws)) → ((d : CoreState) → Half hand starts u x (pc + 1) (reg_set regs R11 v) d → WithinHand home relied t Q k hand1 d) → (a : CoreState) → Half hand starts u x pc regs a → WithinHand home relied t Q (suc k) hand1 a
     half_steps x pc k regs v i stands plain is_row next a h = inr (λ b kept.
         let hb = half_kept hand starts u x pc regs a b kept h in
         let regs' = reg_set regs R11 v in
         let before = th pc regs in
         let behind = th (pc + 1) regs' in
-        let d : CoreState = put_own b t before (own (pc + 1) regs' b.words) in (
+        let d : CoreState = put_local b t before (own (pc + 1) regs' b.words) in (
           hand1,
           d,
           record {
             thread = before;
             here = hb.common.here;
-            made = turn b pc regs i hb.common.here stands plain.no_event ∙ plain.row_is home b t before ∙ ap (told (put_own b t before)) (is_row b.words);
+            made = turn b pc regs i hb.common.here stands plain.no_event ∙ plain.row_is home b t before ∙ ap (map_did (put_local b t before)) (is_row b.words);
             change = own_only (own (pc + 1) regs' b.words) (λ w. refl) refl refl;
           },
           next d (record {
@@ -284,8 +284,8 @@ module _ (home : Home) (relied : ℕ → Bool) (t : ℕ) (thread : Thread) (runn
             here = gb.common.here;
             made =
                 turn b pc regs (Getst R0 R1) gb.common.here stands refl
-                ∙ ap (λ m. told gets (on_sync b (thread_got home.number b.threads) m)) name
-                ∙ ap (λ o. told gets (where_taken (thread_got home.number b.threads n) o)) gb.common.taken
+                ∙ ap (λ m. map_did gets (on_sync b (thread_got home.number b.threads) m)) name
+                ∙ ap (λ o. map_did gets (where_taken (thread_got home.number b.threads n) o)) gb.common.taken
                 ∙ ap (λ o. makes (gets (thread_got_by home.number b.threads n o))) is_first
                 ∙ ap (λ o. makes (gets (record { left = tied_at b.threads n u o; value = thread_name home.number u }))) found.1;
             change = gets_thread n u x regs' least gb.sync_is is_first found.1 refl refl;

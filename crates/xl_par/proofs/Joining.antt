@@ -9,7 +9,7 @@ use Rattle.xs_instr.specs.declared.instr.Reg.TheVariants.{R1, R2, R3, R4, R5, R6
 use Rattle.xs_instr.specs.declared.state.CoreState.{CoreState}
 use Rattle.xs_instr.specs.declared.state.Regs.{Regs}
 use Rattle.xs_instr.specs.declared.state.Thread.{Thread}
-use Rattle.xs_instr.specs.Did.{told}
+use Rattle.xs_instr.specs.Did.{map_did}
 use Rattle.xs_instr.specs.Lines.{at_pos}
 use Rattle.xs_instr.specs.OwnSteps.{RunsAt, StandAt, Within}
 use Rattle.xs_instr.specs.Pool.{joined, joined_when, sync_freed, sync_freed_by}
@@ -103,8 +103,8 @@ module _ (home : Home) (relied : ℕ → Bool) (t n : ℕ) (thread : Thread) (po
       let goes = goes_with put_threads c t th in
       let row =
       turn_row home.parts.code relied everywhere home t thread at_work.runs at_work.no_events refl c index regs (Mjoin R10) f.here st.2.2.2.2.2.2.2.0 refl
-      ∙ ap (λ m. told goes (on_sync c (joined c.threads) m)) name
-      ∙ ap (λ o. told goes (where_taken (joined c.threads n) o)) taken in
+      ∙ ap (λ m. map_did goes (on_sync c (joined c.threads) m)) name
+      ∙ ap (λ o. map_did goes (where_taken (joined c.threads n) o)) taken in
       record {
         index = index;
         regs = regs;
@@ -114,13 +114,13 @@ module _ (home : Home) (relied : ℕ → Bool) (t n : ℕ) (thread : Thread) (po
         outer = record { r1 = refl; r2 = refl; r3 = refl; r4 = refl; r5 = refl; r6 = refl };
         others = others_stay thread.regs;
         words = f.words.by;
-        waits = λ m. row ∙ ap (λ b. told goes (joined_when c.threads n b)) m;
-        joins = λ m. row ∙ ap (λ b. told goes (joined_when c.threads n b)) m;
+        waits = λ m. row ∙ ap (λ b. map_did goes (joined_when c.threads n b)) m;
+        joins = λ m. row ∙ ap (λ b. map_did goes (joined_when c.threads n b)) m;
         frees = λ d here there untied.
             turn_row home.parts.code relied everywhere home t thread at_work.runs at_work.no_events refl d (index + 1) regs (Freer R10) here st.2.2.2.2.2.2.2.2.0 refl
             ∙ ap (free_row d t behind) name
-            ∙ ap (λ o. told (goes_with put_syncs d t behind) (where_taken (sync_freed d.threads d.syncs n) o)) there
-            ∙ ap (λ b. told (goes_with put_syncs d t behind) (sync_freed_by d.syncs n b)) untied;
+            ∙ ap (λ o. map_did (goes_with put_syncs d t behind) (where_taken (sync_freed d.threads d.syncs n) o)) there
+            ∙ ap (λ b. map_did (goes_with put_syncs d t behind) (sync_freed_by d.syncs n b)) untied;
       }
 
   pub join_leads : slice_get a.syncs n ≡ Some true → Leads (KeptSync relied t n) (QuietStep home t) (λ b. (c : CoreState) → KeptSync relied t n b c → Joins home relied t n thread a.words pos (pc + 9) c) 7 a

@@ -12,7 +12,7 @@ use Rattle.xs_instr.specs.declared.state.Thread.{Thread}
 use Rattle.xs_instr.specs.OwnSteps.{RunsAt}
 use Rattle.xs_instr.specs.Did.{makes}
 use Rattle.xs_instr.specs.Registers.{reg_get, reg_set}
-use Rattle.xs_instr.specs.Rows.{own_row, sets}
+use Rattle.xs_instr.specs.Rows.{local_row, sets}
 use Rattle.xl_expr.proofs.Ways.{Fits, IsPlain, Sure, at_pc, own}
 
 -- no step may change a word
@@ -20,7 +20,7 @@ abbrev pub everywhere : ℕ → Type 0
 everywhere w = Unit {0}
 
 module _ (code : Code) (relied : ℕ → Bool) (words : List ℕ) where
-  pub by_regs : (i : Instr) (pc : ℕ) (regs regs' : Regs) → slice_get code.instrs pc ≡ Some i → IsPlain i → ((ws : List ℕ) → own_row (own pc regs ws) i ≡ makes (own (pc + 1) regs' ws)) → Sure code relied everywhere (own pc regs words) (own (pc + 1) regs' words)
+  pub by_regs : (i : Instr) (pc : ℕ) (regs regs' : Regs) → slice_get code.instrs pc ≡ Some i → IsPlain i → ((ws : List ℕ) → local_row (own pc regs ws) i ≡ makes (own (pc + 1) regs' ws)) → Sure code relied everywhere (own pc regs words) (own (pc + 1) regs' words)
   by_regs i pc regs regs' stands plain row = record {
     instr = i;
     stands = stands;

@@ -12,7 +12,7 @@ use Rattle.xs_instr.specs.declared.state.CoreState.{CoreState}
 use Rattle.xs_instr.specs.declared.state.Mode.TheVariants.{Running, Waiting}
 use Rattle.xs_instr.specs.declared.state.Regs.{Regs}
 use Rattle.xs_instr.specs.declared.state.Thread.{Thread}
-use Rattle.xs_instr.specs.Did.{makes, told}
+use Rattle.xs_instr.specs.Did.{makes, map_did}
 use Rattle.xs_instr.specs.Lines.{line}
 use Rattle.xs_instr.specs.OwnSteps.{StandAt, Within}
 use Rattle.xs_instr.specs.Pool.{all_wait, first_free, is_tied, sync_got, synced, synced_by}
@@ -117,9 +117,9 @@ module _ (home : Home) (relied : ℕ → Bool) (t : ℕ) (thread : Thread) (runn
           tied = among;
           goes =
               turn home relied t thread running quiet stacks n few_cores inside few old b pc regs (Msync R1) gb.common.here stands refl
-              ∙ ap (λ m. told goes (on_sync b (synced b.threads) m)) name
-              ∙ ap (λ o. told goes (where_taken (synced b.threads n) o)) gb.common.taken
-              ∙ ap (λ z. told goes (synced_by b.threads n z)) waiting;
+              ∙ ap (λ m. map_did goes (on_sync b (synced b.threads) m)) name
+              ∙ ap (λ o. map_did goes (where_taken (synced b.threads n) o)) gb.common.taken
+              ∙ ap (λ z. map_did goes (synced_by b.threads n z)) waiting;
         }
 
     -- threads are got for the starts that are left

@@ -9,7 +9,7 @@ use Rattle.xs_instr.specs.declared.state.Thread.{Thread}
 use Rattle.xs_instr.specs.Did.{makes}
 use Rattle.xs_instr.specs.OwnSteps.{Kept}
 use Rattle.xs_instr.specs.Pool.{first_free, is_tied, is_unused, threads_taken, tied_to}
-use Rattle.xs_instr.specs.Rows.{Own, goes_on, put_own, put_syncs, put_threads}
+use Rattle.xs_instr.specs.Rows.{Local, goes_on, put_local, put_syncs, put_threads}
 use Rattle.xs_instr.specs.Slot.{slot}
 
 -- a number is among others
@@ -65,9 +65,9 @@ pub record KeptHand (relied : ℕ → Bool) (t : ℕ) (hand : Hand) (a b : CoreS
 -- what a step changes: the thread's pc and registers alone, with all words as they are; or it gets the first free synchroniser; or the
 -- first unused thread, which then waits; or a waiting thread that it has got is prepared
 pub data Change (t : ℕ) (thread : Thread) (hand hand' : Hand) (a b : CoreState) : Type 0 where
-  own_only : (after : Own) →
+  own_only : (after : Local) →
       ((w : ℕ) → slice_get after.words w ≡ slice_get a.words w) →
-      b ≡ put_own a t thread after → hand' ≡ hand → Change t thread hand hand' a b
+      b ≡ put_local a t thread after → hand' ≡ hand → Change t thread hand hand' a b
   gets_sync : (n : ℕ) (regs : Regs) →
       hand.sync ≡ None → first_free a.syncs 0 ≡ Some n →
       b ≡ goes_on (put_syncs a (slice_set a.syncs n true)) t thread regs →

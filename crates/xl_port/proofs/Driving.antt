@@ -8,7 +8,7 @@ use Rattle.xs_instr.specs.declared.state.CoreState.{CoreState}
 use Rattle.xs_instr.specs.declared.state.Port.{Port}
 use Rattle.xs_instr.specs.declared.state.Regs.{Regs}
 use Rattle.xs_instr.specs.declared.state.Thread.{Thread}
-use Rattle.xs_instr.specs.Did.{told}
+use Rattle.xs_instr.specs.Did.{map_did}
 use Rattle.xs_instr.specs.Lines.{Line}
 use Rattle.xs_instr.specs.OwnSteps.{HasRoom, IsApart, RunsAt, StandAt}
 use Rattle.xs_instr.specs.Ports.{can_send, counter, drives_by}
@@ -71,9 +71,9 @@ module _ (plan : Plan) (o : kernel.Output) (home : Home) (relied : ℕ → Bool)
         within = sc.room.within;
         words = sc.words;
         port_is = sc.there;
-        waits = λ m. turn ∙ ap (λ z. told (goes_with put_ports c t th)
+        waits = λ m. turn ∙ ap (λ z. map_did (goes_with put_ports c t th)
             (drives_by home (counter c.clock) regs.r0 c.ports p (set_for time port) z)) m;
-        goes = λ m. turn ∙ ap (λ z. told (goes_with put_ports c t th)
+        goes = λ m. turn ∙ ap (λ z. map_did (goes_with put_ports c t th)
             (drives_by home (counter c.clock) regs.r0 c.ports p (set_for time port) z)) m;
       } in
       subst (λ q. PutsOut home relied s t thread a.words p port o.pos q time v c) e

@@ -9,7 +9,7 @@ use Rattle.xs_instr.specs.declared.state.CoreState.{CoreState}
 use Rattle.xs_instr.specs.declared.state.Regs.{Regs}
 use Rattle.xs_instr.specs.declared.state.Thread.{Thread}
 use Rattle.xs_instr.specs.declared.state.Timer.{Timer}
-use Rattle.xs_instr.specs.Did.{told}
+use Rattle.xs_instr.specs.Did.{map_did}
 use Rattle.xs_instr.specs.Lines.{Line}
 use Rattle.xs_instr.specs.OwnSteps.{RunsAt, StandAt}
 use Rattle.xs_instr.specs.Registers.{reg_set}
@@ -71,8 +71,8 @@ module _ (home : Home) (relied : ℕ → Bool) (s t m : ℕ) (timer : Timer) (th
         within = sc.room.within;
         words = sc.words;
         timer_is = sc.there;
-        waits = λ q. turn ∙ ap (λ z. told (gets_with put_timers c t th R0) (clock_by c.clock c.timers m set z)) q;
-        goes = λ q. turn ∙ ap (λ z. told (gets_with put_timers c t th R0) (clock_by c.clock c.timers m set z)) q;
+        waits = λ q. turn ∙ ap (λ z. map_did (gets_with put_timers c t th R0) (clock_by c.clock c.timers m set z)) q;
+        goes = λ q. turn ∙ ap (λ z. map_did (gets_with put_timers c t th R0) (clock_by c.clock c.timers m set z)) q;
       } in
       subst (λ q. Reads q when c) e reads
 

@@ -10,7 +10,7 @@ use Rattle.xs_instr.specs.declared.state.Port.{Port}
 use Rattle.xs_instr.specs.declared.state.Regs.{Regs}
 use Rattle.xs_instr.specs.declared.state.Thread.{Thread}
 use Rattle.xs_instr.specs.declared.trace.Record.TheVariants.{PortIn}
-use Rattle.xs_instr.specs.Did.{Made, told}
+use Rattle.xs_instr.specs.Did.{Made, map_did}
 use Rattle.xs_instr.specs.Lines.{Line}
 use Rattle.xs_instr.specs.OwnSteps.{RunsAt, StandAt}
 use Rattle.xs_instr.specs.Ports.{can_receive, counter, pins_of, reads_now}
@@ -89,8 +89,8 @@ module _ (home : Home) (relied : ℕ → Bool) (s t p : ℕ) (port : Port) (thre
         within = sc.room.within;
         words = sc.words;
         port_is = sc.there;
-        waits = λ m. turn ∙ ap (λ z. told (gets_with put_ports c t th R0) (reads_now home c.clock c.ports p set z)) m;
-        goes = λ m. turn ∙ ap (λ z. told (gets_with put_ports c t th R0) (reads_now home c.clock c.ports p set z)) m
+        waits = λ m. turn ∙ ap (λ z. map_did (gets_with put_ports c t th R0) (reads_now home c.clock c.ports p set z)) m;
+        goes = λ m. turn ∙ ap (λ z. map_did (gets_with put_ports c t th R0) (reads_now home c.clock c.ports p set z)) m
             ∙ ap (λ d. Made (come_in home c t p (record thread { pc = index + 1; regs = regs }) set)
             (Some (PortIn home.number d.port (counter c.clock) (pins_of home c.clock d.port))) []) (set_decl when port);
       } in

@@ -17,7 +17,7 @@ use Rattle.xs_instr.specs.Lines.{Line, at_pos}
 use Rattle.xs_instr.specs.Memory.{address_at}
 use Rattle.xs_instr.specs.OwnSteps.{HasRoom, IsApart, IsWord, OwnStep, RunsAt, StandAt, Within}
 use Rattle.xs_instr.specs.Registers.{reg_get, reg_set}
-use Rattle.xs_instr.specs.Rows.{put_own, row}
+use Rattle.xs_instr.specs.Rows.{put_local, row}
 use Rattle.xs_instr.specs.Slot.{is_waiteu, slot}
 use Rattle.xc_kernel.specs.Plain as kernel
 use Rattle.xc_kernel.specs.Values.{ErrorKind, Value, word, error}
@@ -113,7 +113,7 @@ beside home relied leaves mine t Has Q lasts (suc n) a e (inr h) = inr (λ b k.
 
 -- the core behind a step that changes registers, ports and timers
 abbrev pub behind_step : CoreState → (t : ℕ) → Thread → (pc : ℕ) → Regs → List Port → List Timer → CoreState
-behind_step c t thread pc regs ports timers = record (put_own c t thread (own pc regs c.words))
+behind_step c t thread pc regs ports timers = record (put_local c t thread (own pc regs c.words))
     { ports = ports; timers = timers; events = c.events }
 
 module _ (home : Home) (relied : ℕ → Bool) (mine : Res → Type 0) (s t : ℕ) (thread : Thread) (runs : thread.mode ≡ Running)

@@ -12,7 +12,7 @@ use Rattle.xs_instr.specs.declared.state.Regs.{Regs}
 use Rattle.xs_instr.specs.declared.state.Res.TheVariants.{Timer as ResTimer}
 use Rattle.xs_instr.specs.declared.state.Thread.{Thread}
 use Rattle.xs_instr.specs.declared.state.Timer.{Timer}
-use Rattle.xs_instr.specs.Did.{makes, told}
+use Rattle.xs_instr.specs.Did.{makes, map_did}
 use Rattle.xs_instr.specs.Resources.{ATimer, named, usable}
 use Rattle.xs_instr.specs.Rows.{cond_row, data_row, gets_with, goes_with, in_row, put_timers, row}
 use Rattle.xs_instr.specs.Timers.{clock_by, clock_latched, clock_read, is_timer_cond, timer_cond_by, timer_cond_set, timer_data_set, timer_meets}
@@ -62,21 +62,21 @@ module _ (home : Home) (relied : ℕ → Bool) (s t n : ℕ) (thread : Thread) (
   setc_turns cond timer ok = sets timer (record timer { cond = cond; latch = None }) (Setc R11 cond) refl (λ c there.
       ap (λ m. cond_row c t th cond (named home.number m)) r11_is
       ∙ ap (cond_row c t th cond) names
-      ∙ ap (λ x. told (goes_with put_timers c t th) (usable (timer_cond_set cond c.timers n) x)) there
-      ∙ ap (λ b. told (goes_with put_timers c t th) (timer_cond_by cond c.timers n timer b)) ok)
+      ∙ ap (λ x. map_did (goes_with put_timers c t th) (usable (timer_cond_set cond c.timers n) x)) there
+      ∙ ap (λ b. map_did (goes_with put_timers c t th) (timer_cond_by cond c.timers n timer b)) ok)
 
   pub setd_turns : (timer : Timer) (time : ℕ) → regs.r10 ≡ time → TimerTurns timer (record timer { datum = time }) (Setd R11 R10)
   setd_turns timer time r10_is = sets timer (record timer { datum = time }) (Setd R11 R10) refl (λ c there.
       ap (λ m. data_row c t th regs.r10 (named home.number m)) r11_is
       ∙ ap (data_row c t th regs.r10) names
-      ∙ ap (λ x. told (goes_with put_timers c t th) (usable (timer_data_set regs.r10 c.timers n) x)) there
-      ∙ ap (λ v. told (goes_with put_timers c t th) (timer_data_set v c.timers n timer)) r10_is)
+      ∙ ap (λ x. map_did (goes_with put_timers c t th) (usable (timer_data_set regs.r10 c.timers n) x)) there
+      ∙ ap (λ v. map_did (goes_with put_timers c t th) (timer_data_set v c.timers n timer)) r10_is)
 
   pub in_row_is : (timer : Timer) (c : CoreState) → timer_is n timer c → timer.latch ≡ None →
-      row home c t th (In R0 R11) ≡ told (gets_with put_timers c t th R0)
+      row home c t th (In R0 R11) ≡ map_did (gets_with put_timers c t th R0)
       (clock_by c.clock c.timers n timer (timer_meets timer.cond c.clock timer.datum))
   in_row_is timer c there unlatched =
       ap (λ m. in_row home c t th R0 regs.r11 (named home.number m)) r11_is
       ∙ ap (in_row home c t th R0 regs.r11) names
-      ∙ ap (λ x. told (gets_with put_timers c t th R0) (usable (clock_read c.clock c.timers n) x)) there
-      ∙ ap (λ got. told (gets_with put_timers c t th R0) (clock_latched c.clock c.timers n timer got)) unlatched
+      ∙ ap (λ x. map_did (gets_with put_timers c t th R0) (usable (clock_read c.clock c.timers n) x)) there
+      ∙ ap (λ got. map_did (gets_with put_timers c t th R0) (clock_latched c.clock c.timers n timer got)) unlatched

@@ -18,7 +18,7 @@ use Rattle.xs_instr.specs.declared.state.Thread.{Thread}
 use Rattle.xs_instr.specs.declared.state.Token.{Token}
 use Rattle.xs_instr.specs.declared.trace.Record.{Record}
 use Rattle.xs_instr.specs.declared.trace.Record.TheVariants.{Com}
-use Rattle.xs_instr.specs.Did.{Did, Given, Made, told}
+use Rattle.xs_instr.specs.Did.{Did, Given, Made, map_did}
 use Rattle.xs_instr.specs.Ends.{Gone, Word, byte_in, check_in, given_ends, ins_byte, ins_control, ins_word, outs, outs_by, peer_of, take_byte, take_word, tokens_go, tokens_taken, word_in, word_tokens}
 use Rattle.xs_instr.specs.Machine.{boot_end}
 use Rattle.xs_instr.specs.Registers.{reg_set}
@@ -39,15 +39,15 @@ left_by change old p t threads ends moved set =
     ∙ ap (λ s. state_of (record s { threads = slice_set s.threads t (change (thread_at s.threads t)) })) moved
 
 -- a step that puts nothing into a register
-sent_on : (old p : State) (t : ℕ) (threads : List Thread) (gone : Gone) (did : Did (List ChanEnd)) (box box' : Buffer Sent) → did ≡ Made gone.ends None gone.sent → Moves old gone p box box' → threads ≡ slice_set p.threads t (next (thread_at p.threads t)) → IsSent (told (goes_with put_ends (state_of old) t (thread_at old.threads t)) did) (state_of (record p { threads = threads })) None box.items box'.items
+sent_on : (old p : State) (t : ℕ) (threads : List Thread) (gone : Gone) (did : Did (List ChanEnd)) (box box' : Buffer Sent) → did ≡ Made gone.ends None gone.sent → Moves old gone p box box' → threads ≡ slice_set p.threads t (next (thread_at p.threads t)) → IsSent (map_did (goes_with put_ends (state_of old) t (thread_at old.threads t)) did) (state_of (record p { threads = threads })) None box.items box'.items
 sent_on old p t threads gone did box box' is moves set =
-    subst (λ d. IsSent (told (goes_with put_ends (state_of old) t (thread_at old.threads t)) d) (state_of (record p { threads = threads })) None box.items box'.items) (sym is)
+    subst (λ d. IsSent (map_did (goes_with put_ends (state_of old) t (thread_at old.threads t)) d) (state_of (record p { threads = threads })) None box.items box'.items) (sym is)
     (left_by next old p t threads gone.ends moves.state set, refl, moves.sent)
 
 -- a step that puts a value into a register
-got_on : (old p : State) (t : ℕ) (d : Reg) (v : ℕ) (threads : List Thread) (gone : Gone) (did : Did (Given (List ChanEnd))) (record_of : Option Record) (box box' : Buffer Sent) → did ≡ Made (given_ends gone v) record_of gone.sent → Moves old gone p box box' → threads ≡ slice_set p.threads t (next_with d v (thread_at p.threads t)) → IsSent (told (gets_with put_ends (state_of old) t (thread_at old.threads t) d) did) (state_of (record p { threads = threads })) record_of box.items box'.items
+got_on : (old p : State) (t : ℕ) (d : Reg) (v : ℕ) (threads : List Thread) (gone : Gone) (did : Did (Given (List ChanEnd))) (record_of : Option Record) (box box' : Buffer Sent) → did ≡ Made (given_ends gone v) record_of gone.sent → Moves old gone p box box' → threads ≡ slice_set p.threads t (next_with d v (thread_at p.threads t)) → IsSent (map_did (gets_with put_ends (state_of old) t (thread_at old.threads t) d) did) (state_of (record p { threads = threads })) record_of box.items box'.items
 got_on old p t d v threads gone did record_of box box' is moves set =
-    subst (λ k. IsSent (told (gets_with put_ends (state_of old) t (thread_at old.threads t) d) k) (state_of (record p { threads = threads })) record_of box.items box'.items) (sym is)
+    subst (λ k. IsSent (map_did (gets_with put_ends (state_of old) t (thread_at old.threads t) d) k) (state_of (record p { threads = threads })) record_of box.items box'.items) (sym is)
     (left_by (next_with d v) old p t threads gone.ends moves.state set, refl, moves.sent)
 
 -- what goes out of the end, and what is taken from it

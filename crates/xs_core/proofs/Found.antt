@@ -10,7 +10,7 @@ use Rattle.xs_instr.specs.declared.state.ChanEnd.{ChanEnd}
 use Rattle.xs_instr.specs.declared.state.CoreState.{CoreState}
 use Rattle.xs_instr.specs.declared.state.Lock.{Lock}
 use Rattle.xs_instr.specs.declared.trace.Trap.TheVariants.{Resource as NoResource}
-use Rattle.xs_instr.specs.Did.{Did, Made, Paused, Traps, Idle, is_step, told}
+use Rattle.xs_instr.specs.Did.{Did, Made, Paused, Traps, Idle, is_step, map_did}
 use Rattle.xs_instr.specs.Ends.{Checked, Gone, Passed, Taken, Word, byte_in, check_in, outs_by, word_in}
 use Rattle.xs_instr.specs.Pool.{lock_held, lock_held_by, lock_there, where_lock}
 use Rattle.xs_instr.specs.Resources.{on_end, usable}
@@ -21,26 +21,26 @@ past (x ∷ xs) zero le = absurd (omega arith)
 past (x ∷ xs) (suc i) le = past xs i (omega arith)
 
 -- nothing is at the place
-pub absent : {X A B : Type 0} (put : A → B) (go : X → Did A) (xs : List X) (i : ℕ) → false ≡ nat_lt i (length xs) → Traps NoResource ≡ told put (usable go (slice_get xs i))
-absent put go xs i is_past = sym (ap (λ o. told put (usable go o)) (past xs i (false-ltb i (length xs) is_past)))
+pub absent : {X A B : Type 0} (put : A → B) (go : X → Did A) (xs : List X) (i : ℕ) → false ≡ nat_lt i (length xs) → Traps NoResource ≡ map_did put (usable go (slice_get xs i))
+absent put go xs i is_past = sym (ap (λ o. map_did put (usable go o)) (past xs i (false-ltb i (length xs) is_past)))
 
 -- what is at the place says what is done
-pub found : {X A B : Type 0} (put : A → B) (go : X → Did A) (xs : List X) (i : ℕ) (d : X) (did : Did A) → true ≡ nat_lt i (length xs) → go (get_or xs i d) ≡ did → told put did ≡ told put (usable go (slice_get xs i))
-found put go xs i d did is_there is = sym (ap (λ o. told put (usable go o)) (there xs i d (true-ltb i (length xs) is_there)) ∙ ap (told put) is)
+pub found : {X A B : Type 0} (put : A → B) (go : X → Did A) (xs : List X) (i : ℕ) (d : X) (did : Did A) → true ≡ nat_lt i (length xs) → go (get_or xs i d) ≡ did → map_did put did ≡ map_did put (usable go (slice_get xs i))
+found put go xs i d did is_there is = sym (ap (λ o. map_did put (usable go o)) (there xs i d (true-ltb i (length xs) is_there)) ∙ ap (map_did put) is)
 
-told_step : {A B : Type 0} (put : A → B) (did : Did A) → is_step (told put did) ≡ is_step did
+told_step : {A B : Type 0} (put : A → B) (did : Did A) → is_step (map_did put did) ≡ is_step did
 told_step put (Made left made sent) = refl
 told_step put Paused = refl
 told_step put (Traps kind) = refl
 told_step put Idle = refl
 
 -- a step is made where what is at the place says so
-pub found_step : {X A B : Type 0} (put : A → B) (go : X → Did A) (xs : List X) (i : ℕ) (d : X) → true ≡ nat_lt i (length xs) → is_step (go (get_or xs i d)) ≡ true → is_step (told put (usable go (slice_get xs i))) ≡ true
+pub found_step : {X A B : Type 0} (put : A → B) (go : X → Did A) (xs : List X) (i : ℕ) (d : X) → true ≡ nat_lt i (length xs) → is_step (go (get_or xs i d)) ≡ true → is_step (map_did put (usable go (slice_get xs i))) ≡ true
 found_step put go xs i d is_there is = sym (ap is_step (found put go xs i d (go (get_or xs i d)) is_there refl)) ∙ told_step put (go (get_or xs i d)) ∙ is
 
 -- the row of the end that is named
-pub end_named : {A B : Type 0} (put : A → B) (core : CoreState) (go : ℕ → ChanEnd → Did A) (name : Resource) (e : ℕ) → name ≡ resource.End e → told put (usable (go e) (slice_get core.ends e)) ≡ told put (on_end core go (meant_by name))
-end_named put core go name e is = sym (ap (λ r. told put (on_end core go (meant_by r))) is)
+pub end_named : {A B : Type 0} (put : A → B) (core : CoreState) (go : ℕ → ChanEnd → Did A) (name : Resource) (e : ℕ) → name ≡ resource.End e → map_did put (usable (go e) (slice_get core.ends e)) ≡ map_did put (on_end core go (meant_by name))
+end_named put core go name e is = sym (ap (λ r. map_did put (on_end core go (meant_by r))) is)
 
 -- tokens go out where there are credits for them
 pub pays : (gone : Gone) (n have credits : ℕ) → n ≤ have → have ≡ credits → is_step (outs_by gone (nat_le n credits)) ≡ true
@@ -61,14 +61,14 @@ pub word_step : (home : Home) (gone : Gone) (v : ℕ) (k : Taken) → Word v ≡
 word_step home gone v k is = sym (ap (λ j. is_step (word_in home gone j)) is)
 
 -- no lock is at the place
-pub lock_absent : {A B : Type 0} (put : A → B) (go : Lock → Did A) (locks : List Lock) (n : ℕ) → false ≡ nat_lt n (length locks) → Traps NoResource ≡ told put (lock_there go (slice_get locks n))
-lock_absent put go locks n is_past = sym (ap (λ o. told put (lock_there go o)) (past locks n (false-ltb n (length locks) is_past)))
+pub lock_absent : {A B : Type 0} (put : A → B) (go : Lock → Did A) (locks : List Lock) (n : ℕ) → false ≡ nat_lt n (length locks) → Traps NoResource ≡ map_did put (lock_there go (slice_get locks n))
+lock_absent put go locks n is_past = sym (ap (λ o. map_did put (lock_there go o)) (past locks n (false-ltb n (length locks) is_past)))
 
 -- the lock that is at the place says what is done
-pub lock_found : {A B : Type 0} (put : A → B) (go : Lock → Did A) (locks : List Lock) (n : ℕ) (lock : Lock) (did : Did A) → true ≡ nat_lt n (length locks) → lock ≡ get_or locks n lock → where_lock go lock lock.taken ≡ did → told put did ≡ told put (lock_there go (slice_get locks n))
-lock_found put go locks n lock did is_there at is = sym (ap (λ o. told put (lock_there go o)) (there locks n lock (true-ltb n (length locks) is_there) ∙ ap Some (sym at)) ∙ ap (told put) is)
+pub lock_found : {A B : Type 0} (put : A → B) (go : Lock → Did A) (locks : List Lock) (n : ℕ) (lock : Lock) (did : Did A) → true ≡ nat_lt n (length locks) → lock ≡ get_or locks n lock → where_lock go lock lock.taken ≡ did → map_did put did ≡ map_did put (lock_there go (slice_get locks n))
+lock_found put go locks n lock did is_there at is = sym (ap (λ o. map_did put (lock_there go o)) (there locks n lock (true-ltb n (length locks) is_there) ∙ ap Some (sym at)) ∙ ap (map_did put) is)
 
-pub lock_step : {A B : Type 0} (put : A → B) (go : Lock → Did A) (locks : List Lock) (n : ℕ) (lock : Lock) → true ≡ nat_lt n (length locks) → lock ≡ get_or locks n lock → is_step (where_lock go lock lock.taken) ≡ true → is_step (told put (lock_there go (slice_get locks n))) ≡ true
+pub lock_step : {A B : Type 0} (put : A → B) (go : Lock → Did A) (locks : List Lock) (n : ℕ) (lock : Lock) → true ≡ nat_lt n (length locks) → lock ≡ get_or locks n lock → is_step (where_lock go lock lock.taken) ≡ true → is_step (map_did put (lock_there go (slice_get locks n))) ≡ true
 lock_step put go locks n lock is_there at is = sym (ap is_step (lock_found put go locks n lock (where_lock go lock lock.taken) is_there at refl)) ∙ told_step put (where_lock go lock lock.taken) ∙ is
 
 -- a lock that nobody holds is taken, and else the thread pauses

@@ -2,20 +2,20 @@
 use Rattle.std.proofs.Common.{◌≡◌, ◌∙◌, ℕ, true, false, ◌||◌, Option, Result, Ok, Err, Some, None, ap, sym, refl}
 use Rattle.std.specs.Prelude.{IfOk, IfSome}
 use Rattle.std.specs.Result.{result_ok}
-use Rattle.xs_core.specs.declared.own_rows.OwnStep.{OwnStep}
-use Rattle.xs_core.specs.Own.{is_own, own_after, own_did, own_in}
+use Rattle.xs_core.specs.declared.local_rows.LocalStep.{LocalStep}
+use Rattle.xs_core.specs.Local.{is_local, local_after, local_did, local_in}
 use Rattle.xs_instr.specs.declared.image.Home.{Home}
 use Rattle.xs_instr.specs.declared.instr.Instr.{Instr}
 use Rattle.xs_instr.specs.declared.instr.Instr.TheVariants.{Getr, Freer, Getst, Tinitpc, Tinitdp, Tinitsp, Msync, Ssync, Mjoin, Freet, Out, Outt, Outct, In, Int, Chkct, Setc, Setd, Setpt, Getts, Setv, Eeu, Edu, Clre, Waiteu, Setsr, Clrsr}
 use Rattle.xs_instr.specs.declared.state.CoreState.{CoreState}
 use Rattle.xs_instr.specs.declared.state.Thread.{Thread}
 use Rattle.xs_instr.specs.declared.trace.Trap.{Trap}
-use Rattle.xs_instr.specs.Did.{makes, told}
-use Rattle.xs_instr.specs.Rows.{own_row, put_own, row}
+use Rattle.xs_instr.specs.Did.{makes, map_did}
+use Rattle.xs_instr.specs.Rows.{local_row, put_local, row}
 use Rattle.xs_instr.specs.Slot.{event_or_row, is_waiteu, pick_where, runs_on}
 
 -- the row of such an instruction is that of what the thread has for itself
-pub own_row_is : (home : Home) (core : CoreState) (t : ℕ) (x : Thread) (i : Instr) → is_own i ≡ true → told (put_own core t x) (own_row (own_in x core.words) i) ≡ row home core t x i
+pub own_row_is : (home : Home) (core : CoreState) (t : ℕ) (x : Thread) (i : Instr) → is_local i ≡ true → map_did (put_local core t x) (local_row (local_in x core.words) i) ≡ row home core t x i
 own_row_is home core t x (Getr d kind) h = cc
 own_row_is home core t x (Freer r) h = cc
 own_row_is home core t x (Getst d r) h = cc
@@ -46,23 +46,23 @@ own_row_is home core t x (Clrsr n) h = cc
 own_row_is home core t x _ h = refl
 
 -- so is what comes of it
-pub did_is_row : (home : Home) (core : CoreState) (t : ℕ) (x : Thread) (i : Instr) (r : Result OwnStep Trap) → is_own i ≡ true → own_did (own_in x core.words) r ≡ own_row (own_in x core.words) i → told (put_own core t x) (own_did (own_in x core.words) r) ≡ row home core t x i
-did_is_row home core t x i r own did = ap (told (put_own core t x)) did ∙ own_row_is home core t x i own
+pub did_is_row : (home : Home) (core : CoreState) (t : ℕ) (x : Thread) (i : Instr) (r : Result LocalStep Trap) → is_local i ≡ true → local_did (local_in x core.words) r ≡ local_row (local_in x core.words) i → map_did (put_local core t x) (local_did (local_in x core.words) r) ≡ row home core t x i
+did_is_row home core t x i r own did = ap (map_did (put_local core t x)) did ∙ own_row_is home core t x i own
 
 -- at none of them a thread takes events for the instruction's sake
-pub own_is_no_waiteu : (i : Instr) → is_own i ≡ true → is_waiteu (Some i) ≡ false
+pub own_is_no_waiteu : (i : Instr) → is_local i ≡ true → is_waiteu (Some i) ≡ false
 own_is_no_waiteu Waiteu h = cc
 own_is_no_waiteu _ h = refl
 
 -- so its turn is its row, where the event bit is clear
-pub own_runs : (home : Home) (core : CoreState) (t : ℕ) (x : Thread) (o : Option Instr) (i : Instr) → x.event_bit ≡ false → o ≡ Some i → is_own i ≡ true → runs_on home core t x o ≡ row home core t x i
+pub own_runs : (home : Home) (core : CoreState) (t : ℕ) (x : Thread) (o : Option Instr) (i : Instr) → x.event_bit ≡ false → o ≡ Some i → is_local i ≡ true → runs_on home core t x o ≡ row home core t x i
 own_runs home core t x o i bit here own =
     ap (runs_on home core t x) here
     ∙ ap (λ b. event_or_row home core t x (Some i) (pick_where home core t (b || is_waiteu (Some i)))) bit
     ∙ ap (λ b. event_or_row home core t x (Some i) (pick_where home core t b)) (own_is_no_waiteu i own)
 
 -- a step that is made makes the turn
-pub made_runs : (home : Home) (core : CoreState) (t : ℕ) (x : Thread) (o : Option Instr) (i : Instr) (r : Result OwnStep Trap) → x.event_bit ≡ false → o ≡ Some i → is_own i ≡ true → own_did (own_in x core.words) r ≡ own_row (own_in x core.words) i → IfSome (result_ok r) (λ step. makes (put_own core t x (own_after (own_in x core.words) step)) ≡ runs_on home core t x o)
+pub made_runs : (home : Home) (core : CoreState) (t : ℕ) (x : Thread) (o : Option Instr) (i : Instr) (r : Result LocalStep Trap) → x.event_bit ≡ false → o ≡ Some i → is_local i ≡ true → local_did (local_in x core.words) r ≡ local_row (local_in x core.words) i → IfSome (result_ok r) (λ step. makes (put_local core t x (local_after (local_in x core.words) step)) ≡ runs_on home core t x o)
 made_runs home core t x o i (Ok step) bit here own did =
     did_is_row home core t x i (Ok step) own did ∙ sym (own_runs home core t x o i bit here own)
 made_runs home core t x o i (Err kind) bit here own did = tt

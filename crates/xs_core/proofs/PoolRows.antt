@@ -9,13 +9,13 @@ use Rattle.xs_core.specs.declared.pool_rows.PoolStep.TheVariants.{GetSync, GetLo
 use Rattle.xs_core.specs.declared.state.State.{State}
 use Rattle.xs_core.specs.Pool.{IsWaiting, PoolFits, pool_did}
 use Rattle.xs_core.specs.Seen.{home_of, state_of, lock_at, thread_at}
-use Rattle.xs_core.specs.Turns.{IsMade}
+use Rattle.xs_core.specs.SlotResults.{IsMade}
 use Rattle.xs_instr.specs.declared.instr.Reg.{Reg}
 use Rattle.xs_instr.specs.declared.state.CoreState.{CoreState}
 use Rattle.xs_instr.specs.declared.state.Lock.{Lock}
 use Rattle.xs_instr.specs.declared.state.Mode.TheVariants.{Unused, Waiting}
 use Rattle.xs_instr.specs.declared.state.Thread.{Thread}
-use Rattle.xs_instr.specs.Did.{Did, makes, told}
+use Rattle.xs_instr.specs.Did.{Did, makes, map_did}
 use Rattle.xs_instr.specs.Machine.{unused_thread}
 use Rattle.xs_instr.specs.Pool.{all_joined, all_started, first_free, held_by_none, joined, joined_when, lock_free, lock_freed, lock_freed_by, lock_given, lock_given_by, lock_got, lock_held, lock_held_by, lock_there, locks_taken, prepared, prepared_by, sync_freed, sync_freed_by, sync_got, synced, synced_by, thread_got, thread_got_by, threads_taken, where_lock, with_pc, with_reg}
 use Rattle.xs_instr.specs.Resources.{usable, where_taken}
@@ -31,8 +31,8 @@ as_step s t new step is_step is h =
     subst (λ k. IsMade (pool_did (home_of s) (state_of s) t (thread_at s.threads t) k) new None) (sym is) h
 
 -- a change that is made is told of the core
-pub told_made : {A : Type 0} (put : A → CoreState) (did : Did A) (left : A) (new : CoreState) → did ≡ makes left → new ≡ put left → IsMade (told put did) new None
-told_made put did left new is e = subst (λ d. IsMade (told put d) new None) (sym is) (e, refl, refl)
+pub told_made : {A : Type 0} (put : A → CoreState) (did : Did A) (left : A) (new : CoreState) → did ≡ makes left → new ≡ put left → IsMade (map_did put did) new None
+told_made put did left new is e = subst (λ d. IsMade (map_did put d) new None) (sym is) (e, refl, refl)
 
 lock_is : {A : Type 0} (go : Lock → Did A) (locks : List Lock) (n : ℕ) → n < length locks → (lock_at locks n).taken ≡ true → lock_there go (slice_get locks n) ≡ go (lock_at locks n)
 lock_is go locks n lt taken = ap (lock_there go) (there locks n lock_free lt) ∙ ap (where_lock go (lock_at locks n)) taken
@@ -56,7 +56,7 @@ lock_given_made s t n step threads lock is fits free set =
     (ap (λ l. state_of (record s { threads = threads; locks = slice_set s.locks n l })) free ∙ ap (λ l. state_of (record s { threads = l; locks = slice_set s.locks n held_by_none })) set))
 
 -- a waiting thread is changed
-thread_set : (s : State) (t n : ℕ) (change : Thread → Thread) (threads : List Thread) (changed : Thread) → IsWaiting (state_of s) n → changed ≡ change (thread_at s.threads n) → threads ≡ slice_set (slice_set s.threads n changed) t (next (thread_at s.threads t)) → IsMade (told (goes_with put_threads (state_of s) t (thread_at s.threads t)) (usable (prepared change s.threads n) (slice_get s.threads n))) (state_of (record s { threads = threads })) None
+thread_set : (s : State) (t n : ℕ) (change : Thread → Thread) (threads : List Thread) (changed : Thread) → IsWaiting (state_of s) n → changed ≡ change (thread_at s.threads n) → threads ≡ slice_set (slice_set s.threads n changed) t (next (thread_at s.threads t)) → IsMade (map_did (goes_with put_threads (state_of s) t (thread_at s.threads t)) (usable (prepared change s.threads n) (slice_get s.threads n))) (state_of (record s { threads = threads })) None
 thread_set s t n change threads changed fit to set =
     told_made (goes_with put_threads (state_of s) t (thread_at s.threads t)) _ (slice_set s.threads n (change (thread_at s.threads n))) _
     (ap (usable (prepared change s.threads n)) (there s.threads n unused_thread fit.there) ∙ ap (prepared_by change s.threads n (thread_at s.threads n)) fit.waits)
@@ -137,7 +137,7 @@ sync_freed_made s t n step threads pool gone is fits was freed set =
 -- all threads are changed at once, and thread t goes on
 all_set : (s : State) (t n : ℕ) (did : Did (List Thread)) (left changed threads : List Thread) → there_and_taken (slice_get s.pool.syncs n) ≡ true →
     did ≡ makes left → changed ≡ left → threads ≡ slice_set changed t (next (thread_at s.threads t)) →
-    IsMade (told (goes_with put_threads (state_of s) t (thread_at s.threads t)) (where_taken did (slice_get s.pool.syncs n)))
+    IsMade (map_did (goes_with put_threads (state_of s) t (thread_at s.threads t)) (where_taken did (slice_get s.pool.syncs n)))
     (state_of (record s { threads = threads })) None
 all_set s t n did left changed threads taken is to set =
     told_made (goes_with put_threads (state_of s) t (thread_at s.threads t)) _ left _

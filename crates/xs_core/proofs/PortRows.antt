@@ -11,7 +11,7 @@ use Rattle.xs_core.specs.declared.port_rows.PortStep.TheVariants.{Drive, Read, P
 use Rattle.xs_core.specs.declared.state.State.{State}
 use Rattle.xs_core.specs.Ports.{PortFits, port_did}
 use Rattle.xs_core.specs.Seen.{home_of, state_of, thread_at, timer_at}
-use Rattle.xs_core.specs.Turns.{IsMade, Keeps}
+use Rattle.xs_core.specs.SlotResults.{IsMade, Keeps}
 use Rattle.xs_instr.specs.declared.image.PortDecl.{PortDecl}
 use Rattle.xs_instr.specs.declared.instr.Cond.{Cond}
 use Rattle.xs_instr.specs.declared.instr.Reg.{Reg}
@@ -22,7 +22,7 @@ use Rattle.xs_instr.specs.declared.state.Thread.{Thread}
 use Rattle.xs_instr.specs.declared.state.Timer.{Timer}
 use Rattle.xs_instr.specs.declared.trace.Record.{Record}
 use Rattle.xs_instr.specs.declared.trace.Record.TheVariants.{PortOut, PortIn}
-use Rattle.xs_instr.specs.Did.{Did, Made, Paused, is_step, makes, told}
+use Rattle.xs_instr.specs.Did.{Did, Made, Paused, is_step, makes, map_did}
 use Rattle.xs_instr.specs.Machine.{boot_timer}
 use Rattle.xs_instr.specs.Ports.{counter, drives, drives_by, drives_on, got_record, meets, port_cond_by, port_cond_set, port_data_set, port_time_set, reads, reads_latched, reads_now, reads_on, time_meets}
 use Rattle.xs_instr.specs.Resources.{usable}
@@ -40,7 +40,7 @@ as_step s t new made step is_step is h =
     subst (λ k. IsMade (port_did (home_of s) (state_of s) t (thread_at s.threads t) k) new made) (sym is) h
 
 -- a port is changed, and thread t goes on
-port_put : (s : State) (t p : ℕ) (port : Port) (threads : List Thread) (ports : PortsState) (did : Did (List Port)) → did ≡ makes (slice_set s.ports.ports p port) → ports ≡ with_port s.ports p port → threads ≡ slice_set s.threads t (next (thread_at s.threads t)) → IsMade (told (goes_with put_ports (state_of s) t (thread_at s.threads t)) did) (state_of (record s { threads = threads; ports = ports })) None
+port_put : (s : State) (t p : ℕ) (port : Port) (threads : List Thread) (ports : PortsState) (did : Did (List Port)) → did ≡ makes (slice_set s.ports.ports p port) → ports ≡ with_port s.ports p port → threads ≡ slice_set s.threads t (next (thread_at s.threads t)) → IsMade (map_did (goes_with put_ports (state_of s) t (thread_at s.threads t)) did) (state_of (record s { threads = threads; ports = ports })) None
 port_put s t p port threads ports did is put set =
     told_made (goes_with put_ports (state_of s) t (thread_at s.threads t)) did (slice_set s.ports.ports p port) _ is
     (ap (λ q. state_of (record s { threads = threads; ports = q })) put ∙ ap (λ l. state_of (record s { threads = l; ports = with_port s.ports p port })) set)
@@ -70,8 +70,8 @@ time_made s t p v step threads ports is fits put set =
 
 -- a change that is made, and written down, is told of the core
 told_with : {A : Type 0} (put : A → CoreState) (did : Did A) (left : A) (made : Option Record) (new : CoreState) (wrote : Option Record) →
-    did ≡ Made left made [] → new ≡ put left → wrote ≡ made → IsMade (told put did) new wrote
-told_with put did left made new wrote is e same = subst (λ d. IsMade (told put d) new wrote) (sym is) (e, same, refl)
+    did ≡ Made left made [] → new ≡ put left → wrote ≡ made → IsMade (map_did put did) new wrote
+told_with put did left made new wrote is e same = subst (λ d. IsMade (map_did put d) new wrote) (sym is) (e, same, refl)
 
 -- a port's output
 pub drive_made : (s : State) (t p v core : ℕ) (decl : PortDecl) (got : PortGot) (wrote : Record) (step : PortStep) (threads : List Thread)
@@ -160,7 +160,7 @@ reads_at_once s p d step is fits pause =
 -- a timer is changed, and thread t goes on
 timer_put : (s : State) (t n : ℕ) (timer : Timer) (threads : List Thread) (timers : List Timer) (did : Did (List Timer)) →
     did ≡ makes (slice_set s.timers n timer) → timers ≡ slice_set s.timers n timer → threads ≡ slice_set s.threads t (next (thread_at s.threads t)) →
-    IsMade (told (goes_with put_timers (state_of s) t (thread_at s.threads t)) did) (state_of (record s { threads = threads; timers = timers })) None
+    IsMade (map_did (goes_with put_timers (state_of s) t (thread_at s.threads t)) did) (state_of (record s { threads = threads; timers = timers })) None
 timer_put s t n timer threads timers did is put set =
     told_made (goes_with put_timers (state_of s) t (thread_at s.threads t)) did (slice_set s.timers n timer) _ is
     (ap (λ l. state_of (record s { threads = threads; timers = l })) put ∙ ap

@@ -8,9 +8,9 @@ use Rattle.xs_core.specs.declared.state.State.{State}
 use Rattle.xs_core.specs.Ends.{IsSent}
 use Rattle.xs_core.specs.Order.{IsGoodCode, IsInOrder}
 use Rattle.xs_core.specs.Slots.{IsTurn}
-use Rattle.xs_core.specs.declared.turn.Turn.{Turn}
-use Rattle.xs_core.specs.declared.turn.Turn.TheVariants.{Own, Pool, End, Port, Event}
-use Rattle.xs_core.specs.Turns.{HasByte, IsMade, Keeps, MayGoOn, meant}
+use Rattle.xs_core.specs.declared.slot_result.SlotResult.{SlotResult}
+use Rattle.xs_core.specs.declared.slot_result.SlotResult.TheVariants.{Local, Pool, End, Port, Event}
+use Rattle.xs_core.specs.SlotResults.{HasByte, IsMade, Keeps, MayGoOn, denote}
 use Rattle.xs_instr.specs.declared.image.Home.{Home}
 use Rattle.xs_instr.specs.declared.instr.Instr.{Instr}
 use Rattle.xs_instr.specs.declared.instr.Instr.TheVariants.{Outct, Chkct}
@@ -68,8 +68,8 @@ sent_turn (Traps kind) home old t new made box box' h = absurd h
 sent_turn Idle home old t new made box box' h = absurd h
 
 -- so may a turn that goes on
-pub may_go_on : (pc : ℕ) (turn : Turn) → pc + 1 < 2 ^ 32 → MayGoOn pc turn
-may_go_on pc (Own step) h = h
+pub may_go_on : (pc : ℕ) (turn : SlotResult) → pc + 1 < 2 ^ 32 → MayGoOn pc turn
+may_go_on pc (Local step) h = h
 may_go_on pc (Pool step) h = h
 may_go_on pc (End step) h = h
 may_go_on pc (Port step) h = h
@@ -77,6 +77,6 @@ may_go_on pc (Event step) h = h
 may_go_on pc _ h = tt
 
 -- a turn that is decided is the thread's turn
-pub decided : (home : Home) (core : CoreState) (t : ℕ) (x : Thread) (turn found : Turn) (answer : DidAnswer) (new : CoreState) (box box' : List Sent) → turn ≡ found → meant home core t x turn ≡ slot home core t → IsTurn (meant home core t x found) home core t answer new box box' → IsTurn (slot home core t) home core t answer new box box'
+pub decided : (home : Home) (core : CoreState) (t : ℕ) (x : Thread) (turn found : SlotResult) (answer : DidAnswer) (new : CoreState) (box box' : List Sent) → turn ≡ found → denote home core t x turn ≡ slot home core t → IsTurn (denote home core t x found) home core t answer new box box' → IsTurn (slot home core t) home core t answer new box box'
 decided home core t x turn found answer new box box' is means h =
-    subst (λ d. IsTurn d home core t answer new box box') (ap (meant home core t x) (sym is) ∙ means) h
+    subst (λ d. IsTurn d home core t answer new box box') (ap (denote home core t x) (sym is) ∙ means) h

@@ -8,7 +8,7 @@ use Rattle.xs_instr.specs.declared.state.CoreState.{CoreState}
 use Rattle.xs_instr.specs.declared.state.Sent.{Sent}
 use Rattle.xs_instr.specs.declared.state.Thread.{Thread}
 use Rattle.xs_instr.specs.declared.trace.Record.{Record}
-use Rattle.xs_instr.specs.Did.{Did, told, Made}
+use Rattle.xs_instr.specs.Did.{Did, map_did, Made}
 use Rattle.xs_instr.specs.Ends.{Taken, Word, Control, NotYet, Passed, check, ins_byte, ins_control, outs, take_byte, take_word}
 use Rattle.xs_instr.specs.Resources.{AnEnd, on_end}
 use Rattle.xs_instr.specs.Rows.{gets_with, goes_with, in_row, out_row, put_ends}
@@ -17,12 +17,12 @@ use Rattle.xs_instr.specs.Rows.{gets_with, goes_with, in_row, out_row, put_ends}
 abbrev pub end_did : Home → CoreState → ℕ → Thread → EndStep → Did CoreState
 end_did home core t x (SendWord e v) = out_row home core t x v (AnEnd e)
 end_did home core t x (SendToken e k) =
-    told (goes_with put_ends core t x) (on_end core (outs home core.clock (k ∷ []) core.ends) (AnEnd e))
+    map_did (goes_with put_ends core t x) (on_end core (outs home core.clock (k ∷ []) core.ends) (AnEnd e))
 end_did home core t x (TakeWord d e) = in_row home core t x d 0 (AnEnd e)
 end_did home core t x (TakeByte d e) =
-    told (gets_with put_ends core t x d) (on_end core (ins_byte home core.clock core.ends) (AnEnd e))
+    map_did (gets_with put_ends core t x d) (on_end core (ins_byte home core.clock core.ends) (AnEnd e))
 end_did home core t x (TakeControl e c) =
-    told (goes_with put_ends core t x) (on_end core (ins_control home core.clock c core.ends) (AnEnd e))
+    map_did (goes_with put_ends core t x) (on_end core (ins_control home core.clock c core.ends) (AnEnd e))
 
 -- a word or a byte was found
 abbrev pub is_word : Taken → Bool
@@ -40,5 +40,5 @@ EndFits core (TakeControl e c) = (e < length core.ends) × (check (end_at core.e
 
 -- a step that leaves what it makes, with its record, and what it sends last in the outbox
 abbrev pub IsSent : Did CoreState → CoreState → Option Record → List Sent → List Sent → Type 0
-IsSent (Made core made sent) new told box box' = (new ≡ core) × (told ≡ made) × (box' ≡ box ++ sent)
-IsSent _ new told box box' = ⊥
+IsSent (Made core made sent) new map_did box box' = (new ≡ core) × (map_did ≡ made) × (box' ≡ box ++ sent)
+IsSent _ new map_did box box' = ⊥

@@ -7,12 +7,12 @@ pub mod Idle
 pub mod Inside
 pub mod Names
 pub mod Order
-pub mod Own
+pub mod Local
 pub mod Pool
 pub mod Ports
 pub mod Room
 pub mod Seen
 pub mod Slots
 pub mod Start
-pub mod Turns
+pub mod SlotResults
 pub mod Wired

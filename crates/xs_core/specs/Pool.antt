@@ -7,7 +7,7 @@ use Rattle.xs_instr.specs.declared.image.Home.{Home}
 use Rattle.xs_instr.specs.declared.instr.GetKind.TheVariants.{Sync as KindSync, Lock as KindLock}
 use Rattle.xs_instr.specs.declared.state.CoreState.{CoreState}
 use Rattle.xs_instr.specs.declared.state.Thread.{Thread}
-use Rattle.xs_instr.specs.Did.{Did, told}
+use Rattle.xs_instr.specs.Did.{Did, map_did}
 use Rattle.xs_instr.specs.Pool.{all_wait, is_waiting, joined, prepared, some_tied, synced, thread_got, with_pc, with_reg}
 use Rattle.xs_instr.specs.Resources.{ALock, ASync, AThread, is_num, on_sync, on_thread}
 use Rattle.xs_instr.specs.Rows.{end_row, free_row, get_row, gets_with, goes_with, in_row, out_row, put_threads, wait_row}
@@ -19,15 +19,15 @@ abbrev pub pool_did : Home → CoreState → ℕ → Thread → PoolStep → Did
 pool_did home core t x (GetSync d) = get_row home core t x d KindSync
 pool_did home core t x (GetLock d) = get_row home core t x d KindLock
 pool_did home core t x (GetThread d n) =
-    told (gets_with put_threads core t x d) (on_sync core (thread_got home.number core.threads) (ASync n))
+    map_did (gets_with put_threads core t x d) (on_sync core (thread_got home.number core.threads) (ASync n))
 pool_did home core t x (FreeSync n) = free_row core t x (ASync n)
 pool_did home core t x (FreeLock n) = free_row core t x (ALock n)
 pool_did home core t x (SetPc n k) =
-    told (goes_with put_threads core t x) (on_thread core (prepared (with_pc k) core.threads) (AThread n))
+    map_did (goes_with put_threads core t x) (on_thread core (prepared (with_pc k) core.threads) (AThread n))
 pool_did home core t x (SetReg n r v) =
-    told (goes_with put_threads core t x) (on_thread core (prepared (with_reg r v) core.threads) (AThread n))
-pool_did home core t x (Start n) = told (goes_with put_threads core t x) (on_sync core (synced core.threads) (ASync n))
-pool_did home core t x (Join n) = told (goes_with put_threads core t x) (on_sync core (joined core.threads) (ASync n))
+    map_did (goes_with put_threads core t x) (on_thread core (prepared (with_reg r v) core.threads) (AThread n))
+pool_did home core t x (Start n) = map_did (goes_with put_threads core t x) (on_sync core (synced core.threads) (ASync n))
+pool_did home core t x (Join n) = map_did (goes_with put_threads core t x) (on_sync core (joined core.threads) (ASync n))
 pool_did home core t x Wait = wait_row core t x x.tie
 pool_did home core t x End = end_row core t x x.tie
 pool_did home core t x (Hold d n name) = in_row home core t x d name (ALock n)

@@ -7,7 +7,7 @@ use Rattle.xs_instr.specs.declared.image.Home.{Home}
 use Rattle.xs_instr.specs.declared.state.CoreState.{CoreState}
 use Rattle.xs_instr.specs.declared.state.Port.{Port}
 use Rattle.xs_instr.specs.declared.state.Thread.{Thread}
-use Rattle.xs_instr.specs.Did.{Did, told}
+use Rattle.xs_instr.specs.Did.{Did, map_did}
 use Rattle.xs_instr.specs.Ports.{can_send, can_receive, counter, is_port_cond, port_time_set, time_meets}
 use Rattle.xs_instr.specs.Resources.{APort, ATimer, on_port}
 use Rattle.xs_instr.specs.Rows.{out_row, in_row, cond_row, data_row, goes_with, put_ports}
@@ -25,7 +25,7 @@ port_did home core t x (Drive p v) = out_row home core t x v (APort p)
 port_did home core t x (Read d p) = in_row home core t x d 0 (APort p)
 port_did home core t x (PortCond p cond) = cond_row core t x cond (APort p)
 port_did home core t x (PortData p v) = data_row core t x v (APort p)
-port_did home core t x (PortTime p v) = told (goes_with put_ports core t x) (on_port core (port_time_set v core.ports) (APort p))
+port_did home core t x (PortTime p v) = map_did (goes_with put_ports core t x) (on_port core (port_time_set v core.ports) (APort p))
 port_did home core t x (Clock d n) = in_row home core t x d 0 (ATimer n)
 port_did home core t x (TimerCond n cond) = cond_row core t x cond (ATimer n)
 port_did home core t x (TimerData n v) = data_row core t x v (ATimer n)

@@ -4,16 +4,16 @@ ghost use Rattle.std.specs.Prelude.{◌≡◌, ◌≤◌, ◌<◌, not, length, 
 ghost use Rattle.xs_core.specs.Names.{meant_by};
 ghost use Rattle.xs_core.specs.Order.{IsInOrder};
 ghost use Rattle.xs_core.specs.Seen.{home_of, state_of};
-ghost use Rattle.xs_core.specs.Turns.{steps};
+ghost use Rattle.xs_core.specs.SlotResults.{steps};
 ghost use Rattle.xs_instr.specs.Pool.{is_unused, is_trapped, threads_taken};
 ghost use Rattle.xs_instr.specs.Sight.{count_true, is_timed, is_timed_instr, is_timed_name as is_timed_of, is_timed_thread, threads_trapped, ready_below, timed_below};
 ghost use Rattle.xs_instr.specs.Slot.{is_ready};
 ghost use Rattle.xw_words.specs.Words.{truth};
 
 use crate::names::{Resource, look_up};
+use crate::slot_result::SlotResult;
 use crate::slots::{decide, takes_events};
 use crate::state::State;
-use crate::turn::Turn;
 use xs_instr::{Instr, Mode, Thread};
 use xs_state::Registers;
 
@@ -77,11 +77,11 @@ pub fn can_step(state: &State, t: u8) -> bool
     is_step(decide(state, t))
 }
 
-fn is_step(turn: Turn) -> bool
+fn is_step(turn: SlotResult) -> bool
     ensures { result ≡ steps turn }
 {
     match turn {
-        Turn::Idle | Turn::Paused => false,
+        SlotResult::Idle | SlotResult::Paused => false,
         _ => true,
     }
 }

@@ -7,8 +7,8 @@ ghost use Rattle.xs_core.specs.Order.{IsInOrder, KeepsHome, Moves};
 ghost use Rattle.xs_core.specs.Idle.{KeepsOthers};
 ghost use Rattle.xs_core.specs.Names.{meant_by};
 ghost use Rattle.xs_core.specs.Seen.{home_of, state_of, thread_at};
-ghost use Rattle.xs_core.specs.Turns.{meant, steps, Fits};
-ghost use Rattle.xs_instr.specs.Did.{is_step, told};
+ghost use Rattle.xs_core.specs.SlotResults.{denote, steps, Fits};
+ghost use Rattle.xs_instr.specs.Did.{is_step, map_did};
 ghost use Rattle.xs_instr.specs.declared.state.Moved.TheVariants.{Tok};
 ghost use Rattle.xs_instr.specs.Ends.{check, data_token, ins_byte, ins_control, outs, peer_of, take_byte, take_word, tokens_go, tokens_taken, tokens_to, word_tokens, Passed, Word};
 ghost use Rattle.xs_instr.specs.Resources.{AnEnd, on_end};
@@ -16,9 +16,9 @@ ghost use Rattle.xs_instr.specs.Rows.{gets_with, goes_with, in_row, out_row, put
 
 use crate::moves::go;
 use crate::names::Resource;
+use crate::slot_result::SlotResult;
 use crate::state::State;
 use crate::threads::{pass, pass_with};
-use crate::turn::Turn;
 use circular_buffer::HeapCircularBuffer;
 use xs_chanend::{Checked1, Taken};
 use xs_instr::{Moved, Record, Reg, Sent, Thread, Token, Trap};
@@ -39,107 +39,107 @@ pub enum EndStep {
 }
 
 /// OUT on a channel end.
-pub fn send_word(state: &State, e: u32, value: u32) -> Turn
-    ensures means { (t : ℕ) (x : Thread) → meant (home_of state.now) (state_of state.now) t x result
+pub fn send_word(state: &State, e: u32, value: u32) -> SlotResult
+    ensures means { (t : ℕ) (x : Thread) → denote (home_of state.now) (state_of state.now) t x result
         ≡ out_row (home_of state.now) (state_of state.now) t x value (AnEnd e) }
     ensures steps { (t : ℕ) (x : Thread) →
-        is_step (meant (home_of state.now) (state_of state.now) t x result) ≡ steps result }
+        is_step (denote (home_of state.now) (state_of state.now) t x result) ≡ steps result }
     ensures fits { (t : ℕ) (x : Thread) → Fits (home_of state.now) (state_of state.now) t x result }
 {
     if !state.ends.has(e) {
-        return Turn::Trapped(Trap::Resource);
+        return SlotResult::Trapped(Trap::Resource);
     }
     if state.ends.credits(e) >= 4 {
-        Turn::End(EndStep::SendWord(e, value))
+        SlotResult::End(EndStep::SendWord(e, value))
     } else {
-        Turn::Paused
+        SlotResult::Paused
     }
 }
 
 /// OUTT and OUTCT.
-pub fn send_token(state: &State, name: Resource, token: Token) -> Turn
-    ensures means { (t : ℕ) (x : Thread) → meant (home_of state.now) (state_of state.now) t x result
-        ≡ told (goes_with put_ends (state_of state.now) t x) (on_end (state_of state.now)
+pub fn send_token(state: &State, name: Resource, token: Token) -> SlotResult
+    ensures means { (t : ℕ) (x : Thread) → denote (home_of state.now) (state_of state.now) t x result
+        ≡ map_did (goes_with put_ends (state_of state.now) t x) (on_end (state_of state.now)
         (outs (home_of state.now) (state_of state.now).clock (token ∷ []) (state_of state.now).ends)
         (meant_by name)) }
     ensures steps { (t : ℕ) (x : Thread) →
-        is_step (meant (home_of state.now) (state_of state.now) t x result) ≡ steps result }
+        is_step (denote (home_of state.now) (state_of state.now) t x result) ≡ steps result }
     ensures fits { (t : ℕ) (x : Thread) → Fits (home_of state.now) (state_of state.now) t x result }
 {
     let Resource::End(e) = name else {
-        return Turn::Trapped(Trap::Resource);
+        return SlotResult::Trapped(Trap::Resource);
     };
     if !state.ends.has(e) {
-        return Turn::Trapped(Trap::Resource);
+        return SlotResult::Trapped(Trap::Resource);
     }
     if state.ends.credits(e) >= 1 {
-        Turn::End(EndStep::SendToken(e, token))
+        SlotResult::End(EndStep::SendToken(e, token))
     } else {
-        Turn::Paused
+        SlotResult::Paused
     }
 }
 
 /// IN on a channel end.
-pub fn take_word(state: &State, d: Reg, e: u32) -> Turn
-    ensures means { (t name : ℕ) (x : Thread) → meant (home_of state.now) (state_of state.now) t x
+pub fn take_word(state: &State, d: Reg, e: u32) -> SlotResult
+    ensures means { (t name : ℕ) (x : Thread) → denote (home_of state.now) (state_of state.now) t x
         result ≡ in_row (home_of state.now) (state_of state.now) t x d name (AnEnd e) }
     ensures steps { (t : ℕ) (x : Thread) →
-        is_step (meant (home_of state.now) (state_of state.now) t x result) ≡ steps result }
+        is_step (denote (home_of state.now) (state_of state.now) t x result) ≡ steps result }
     ensures fits { (t : ℕ) (x : Thread) → Fits (home_of state.now) (state_of state.now) t x result }
 {
     if !state.ends.has(e) {
-        return Turn::Trapped(Trap::Resource);
+        return SlotResult::Trapped(Trap::Resource);
     }
     match state.ends.word(e) {
-        Taken::Word(_) => Turn::End(EndStep::TakeWord(d, e)),
-        Taken::Control(_) => Turn::Trapped(Trap::Mismatch),
-        Taken::NotYet => Turn::Paused,
+        Taken::Word(_) => SlotResult::End(EndStep::TakeWord(d, e)),
+        Taken::Control(_) => SlotResult::Trapped(Trap::Mismatch),
+        Taken::NotYet => SlotResult::Paused,
     }
 }
 
 /// INT.
-pub fn take_byte(state: &State, d: Reg, name: Resource) -> Turn
-    ensures means { (t : ℕ) (x : Thread) → meant (home_of state.now) (state_of state.now) t x result
-        ≡ told (gets_with put_ends (state_of state.now) t x d) (on_end (state_of state.now)
+pub fn take_byte(state: &State, d: Reg, name: Resource) -> SlotResult
+    ensures means { (t : ℕ) (x : Thread) → denote (home_of state.now) (state_of state.now) t x result
+        ≡ map_did (gets_with put_ends (state_of state.now) t x d) (on_end (state_of state.now)
         (ins_byte (home_of state.now) (state_of state.now).clock (state_of state.now).ends)
         (meant_by name)) }
     ensures steps { (t : ℕ) (x : Thread) →
-        is_step (meant (home_of state.now) (state_of state.now) t x result) ≡ steps result }
+        is_step (denote (home_of state.now) (state_of state.now) t x result) ≡ steps result }
     ensures fits { (t : ℕ) (x : Thread) → Fits (home_of state.now) (state_of state.now) t x result }
 {
     let Resource::End(e) = name else {
-        return Turn::Trapped(Trap::Resource);
+        return SlotResult::Trapped(Trap::Resource);
     };
     if !state.ends.has(e) {
-        return Turn::Trapped(Trap::Resource);
+        return SlotResult::Trapped(Trap::Resource);
     }
     match state.ends.byte(e) {
-        Taken::Word(_) => Turn::End(EndStep::TakeByte(d, e)),
-        Taken::Control(_) => Turn::Trapped(Trap::Mismatch),
-        Taken::NotYet => Turn::Paused,
+        Taken::Word(_) => SlotResult::End(EndStep::TakeByte(d, e)),
+        Taken::Control(_) => SlotResult::Trapped(Trap::Mismatch),
+        Taken::NotYet => SlotResult::Paused,
     }
 }
 
 /// CHKCT.
-pub fn take_control(state: &State, name: Resource, c: u8) -> Turn
-    ensures means { (t : ℕ) (x : Thread) → meant (home_of state.now) (state_of state.now) t x result
-        ≡ told (goes_with put_ends (state_of state.now) t x) (on_end (state_of state.now)
+pub fn take_control(state: &State, name: Resource, c: u8) -> SlotResult
+    ensures means { (t : ℕ) (x : Thread) → denote (home_of state.now) (state_of state.now) t x result
+        ≡ map_did (goes_with put_ends (state_of state.now) t x) (on_end (state_of state.now)
         (ins_control (home_of state.now) (state_of state.now).clock c (state_of state.now).ends)
         (meant_by name)) }
     ensures steps { (t : ℕ) (x : Thread) →
-        is_step (meant (home_of state.now) (state_of state.now) t x result) ≡ steps result }
+        is_step (denote (home_of state.now) (state_of state.now) t x result) ≡ steps result }
     ensures fits { (t : ℕ) (x : Thread) → Fits (home_of state.now) (state_of state.now) t x result }
 {
     let Resource::End(e) = name else {
-        return Turn::Trapped(Trap::Resource);
+        return SlotResult::Trapped(Trap::Resource);
     };
     if !state.ends.has(e) {
-        return Turn::Trapped(Trap::Resource);
+        return SlotResult::Trapped(Trap::Resource);
     }
     match state.ends.checked(e, c) {
-        Checked1::Passed => Turn::End(EndStep::TakeControl(e, c)),
-        Checked1::Other(_) => Turn::Trapped(Trap::Mismatch),
-        Checked1::NotYet => Turn::Paused,
+        Checked1::Passed => SlotResult::End(EndStep::TakeControl(e, c)),
+        Checked1::Other(_) => SlotResult::Trapped(Trap::Mismatch),
+        Checked1::NotYet => SlotResult::Paused,
     }
 }
 

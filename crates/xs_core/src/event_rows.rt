@@ -5,19 +5,19 @@ ghost use Rattle.xs_core.specs.Events.{event_did, go_where};
 ghost use Rattle.xs_core.specs.Idle.{KeepsOthers};
 ghost use Rattle.xs_core.specs.Names.{meant_by};
 ghost use Rattle.xs_core.specs.Seen.{home_of, state_of, thread_at};
-ghost use Rattle.xs_core.specs.Turns.{meant, steps, Fits, IsMade, Keeps};
+ghost use Rattle.xs_core.specs.SlotResults.{denote, steps, Fits, IsMade, Keeps};
 ghost use Rattle.xs_instr.specs.declared.image.Home.{Home};
 ghost use Rattle.xs_instr.specs.declared.state.CoreState.{CoreState};
 ghost use Rattle.xs_instr.specs.declared.state.Events.{Events as EventsOf};
-ghost use Rattle.xs_instr.specs.Did.{is_step, told, makes, Did};
+ghost use Rattle.xs_instr.specs.Did.{is_step, map_did, makes, Did};
 ghost use Rattle.xs_instr.specs.Events.{latched, on_evented, vector_row, enable_row, disable_row};
 ghost use Rattle.xs_instr.specs.Rows.{goes_with, put_events, bit_row, bit_by};
 ghost use Rattle.xs_instr.specs.Slot.{event_taken};
 
 use crate::names::Resource;
+use crate::slot_result::SlotResult;
 use crate::state::State;
 use crate::threads::pass;
-use crate::turn::Turn;
 use xs_instr::{Res, Thread, Timer, Trap};
 
 /// What a thread does with events.
@@ -36,77 +36,77 @@ pub enum EventStep {
 }
 
 /// SETV.
-pub fn set_vector(state: &State, name: Resource, k: u32) -> Turn
-    ensures means { (t : ℕ) (x : Thread) → meant (home_of state.now) (state_of state.now) t x result
-        ≡ told (goes_with put_events (state_of state.now) t x) (on_evented (state_of state.now)
+pub fn set_vector(state: &State, name: Resource, k: u32) -> SlotResult
+    ensures means { (t : ℕ) (x : Thread) → denote (home_of state.now) (state_of state.now) t x result
+        ≡ map_did (goes_with put_events (state_of state.now) t x) (on_evented (state_of state.now)
         (vector_row (state_of state.now).events k) (meant_by name)) }
     ensures steps { (t : ℕ) (x : Thread) →
-        is_step (meant (home_of state.now) (state_of state.now) t x result) ≡ steps result }
+        is_step (denote (home_of state.now) (state_of state.now) t x result) ≡ steps result }
     ensures fits { (t : ℕ) (x : Thread) → Fits (home_of state.now) (state_of state.now) t x result }
 {
     match find(state, name) {
-        None => Turn::Trapped(Trap::Resource),
-        Some(res) => Turn::Event(EventStep::Vector(res, k)),
+        None => SlotResult::Trapped(Trap::Resource),
+        Some(res) => SlotResult::Event(EventStep::Vector(res, k)),
     }
 }
 
 /// EEU.
-pub fn enable(state: &State, name: Resource) -> Turn
-    ensures means { (t : ℕ) (x : Thread) → meant (home_of state.now) (state_of state.now) t x result
-        ≡ told (goes_with put_events (state_of state.now) t x) (on_evented (state_of state.now)
+pub fn enable(state: &State, name: Resource) -> SlotResult
+    ensures means { (t : ℕ) (x : Thread) → denote (home_of state.now) (state_of state.now) t x result
+        ≡ map_did (goes_with put_events (state_of state.now) t x) (on_evented (state_of state.now)
         (enable_row (state_of state.now).events t) (meant_by name)) }
     ensures steps { (t : ℕ) (x : Thread) →
-        is_step (meant (home_of state.now) (state_of state.now) t x result) ≡ steps result }
+        is_step (denote (home_of state.now) (state_of state.now) t x result) ≡ steps result }
     ensures fits { (t : ℕ) (x : Thread) → Fits (home_of state.now) (state_of state.now) t x result }
 {
     match find(state, name) {
-        None => Turn::Trapped(Trap::Resource),
-        Some(res) => Turn::Event(EventStep::Enable(res)),
+        None => SlotResult::Trapped(Trap::Resource),
+        Some(res) => SlotResult::Event(EventStep::Enable(res)),
     }
 }
 
 /// EDU.
-pub fn disable(state: &State, name: Resource) -> Turn
-    ensures means { (t : ℕ) (x : Thread) → meant (home_of state.now) (state_of state.now) t x result
-        ≡ told (goes_with put_events (state_of state.now) t x) (on_evented (state_of state.now)
+pub fn disable(state: &State, name: Resource) -> SlotResult
+    ensures means { (t : ℕ) (x : Thread) → denote (home_of state.now) (state_of state.now) t x result
+        ≡ map_did (goes_with put_events (state_of state.now) t x) (on_evented (state_of state.now)
         (disable_row (state_of state.now).events) (meant_by name)) }
     ensures steps { (t : ℕ) (x : Thread) →
-        is_step (meant (home_of state.now) (state_of state.now) t x result) ≡ steps result }
+        is_step (denote (home_of state.now) (state_of state.now) t x result) ≡ steps result }
     ensures fits { (t : ℕ) (x : Thread) → Fits (home_of state.now) (state_of state.now) t x result }
 {
     match find(state, name) {
-        None => Turn::Trapped(Trap::Resource),
-        Some(res) => Turn::Event(EventStep::Disable(res)),
+        None => SlotResult::Trapped(Trap::Resource),
+        Some(res) => SlotResult::Event(EventStep::Disable(res)),
     }
 }
 
 /// SETSR: with 1 the event bit is set.
-pub fn set_bit(thread: &Thread, n: u32) -> Turn
-    ensures means { (home : Home) (core : CoreState) (t : ℕ) → meant home core t thread.now result
+pub fn set_bit(thread: &Thread, n: u32) -> SlotResult
+    ensures means { (home : Home) (core : CoreState) (t : ℕ) → denote home core t thread.now result
         ≡ bit_row core t thread.now (bit_by thread.now.event_bit true (nat_eq n 1)) }
     ensures steps { (home : Home) (core : CoreState) (t : ℕ) →
-        is_step (meant home core t thread.now result) ≡ steps result }
+        is_step (denote home core t thread.now result) ≡ steps result }
     ensures fits { (home : Home) (core : CoreState) (t : ℕ) → Fits home core t thread.now result }
 {
     if n == 1 {
-        Turn::Event(EventStep::Bit(true))
+        SlotResult::Event(EventStep::Bit(true))
     } else {
-        Turn::Event(EventStep::Bit(thread.event_bit))
+        SlotResult::Event(EventStep::Bit(thread.event_bit))
     }
 }
 
 /// CLRSR: with 1 the event bit is cleared.
-pub fn clear_bit(thread: &Thread, n: u32) -> Turn
-    ensures means { (home : Home) (core : CoreState) (t : ℕ) → meant home core t thread.now result
+pub fn clear_bit(thread: &Thread, n: u32) -> SlotResult
+    ensures means { (home : Home) (core : CoreState) (t : ℕ) → denote home core t thread.now result
         ≡ bit_row core t thread.now (bit_by thread.now.event_bit false (nat_eq n 1)) }
     ensures steps { (home : Home) (core : CoreState) (t : ℕ) →
-        is_step (meant home core t thread.now result) ≡ steps result }
+        is_step (denote home core t thread.now result) ≡ steps result }
     ensures fits { (home : Home) (core : CoreState) (t : ℕ) → Fits home core t thread.now result }
 {
     if n == 1 {
-        Turn::Event(EventStep::Bit(false))
+        SlotResult::Event(EventStep::Bit(false))
     } else {
-        Turn::Event(EventStep::Bit(thread.event_bit))
+        SlotResult::Event(EventStep::Bit(thread.event_bit))
     }
 }
 

@@ -5,19 +5,19 @@ ghost use Rattle.std.specs.Prelude.{◌≡◌, ◌+◌, ◌<◌, ◌≤◌, ◌^
 ghost use Rattle.xs_core.specs.Pool.{pool_did, PoolFits, IsWaiting};
 ghost use Rattle.xs_core.specs.Names.{meant_by};
 ghost use Rattle.xs_core.specs.Seen.{home_of, state_of, thread_at};
-ghost use Rattle.xs_core.specs.Turns.{meant, steps, Fits, IsMade, Keeps};
+ghost use Rattle.xs_core.specs.SlotResults.{denote, steps, Fits, IsMade, Keeps};
 ghost use Rattle.xs_instr.specs.declared.image.Home.{Home};
 ghost use Rattle.xs_instr.specs.declared.state.CoreState.{CoreState};
 ghost use Rattle.xs_instr.specs.declared.trace.Trap.TheVariants.{Resource as NoResource};
-ghost use Rattle.xs_instr.specs.Did.{is_step, told, Traps};
+ghost use Rattle.xs_instr.specs.Did.{is_step, map_did, Traps};
 ghost use Rattle.xs_instr.specs.Pool.{all_joined, all_started, all_wait, first_free, is_tied, joined, joined_by, lock_got, locks_taken, on_lock, prepared, some_tied, started_by, sync_got, synced, thread_got, thread_got_by, threads_taken, tied_to, with_pc, with_reg};
 ghost use Rattle.xs_instr.specs.Resources.{ALock, ASync, AThread, name_of, on_sync, on_thread};
 ghost use Rattle.xs_instr.specs.Rows.{free_row, gets_with, goes_with, in_row, out_row, put_threads, wait_row, end_row};
 
 use crate::names::Resource;
+use crate::slot_result::SlotResult;
 use crate::state::{LOCKS, State, THREADS};
 use crate::threads::{pass, pass_with, put_next, put_with};
-use crate::turn::Turn;
 use xs_instr::{Lock, Mode, Reg, Regs, Thread, Trap};
 use xs_pool::{Pool, PoolKind};
 use xs_state::Registers;
@@ -54,202 +54,202 @@ pub enum PoolStep {
 }
 
 /// FREER on a synchroniser.
-pub fn free_sync(state: &State, n: u32) -> Turn
-    ensures means { (t : ℕ) (x : Thread) → meant (home_of state.now) (state_of state.now) t x result
+pub fn free_sync(state: &State, n: u32) -> SlotResult
+    ensures means { (t : ℕ) (x : Thread) → denote (home_of state.now) (state_of state.now) t x result
         ≡ free_row (state_of state.now) t x (ASync n) }
     ensures steps { (t : ℕ) (x : Thread) →
-        is_step (meant (home_of state.now) (state_of state.now) t x result) ≡ steps result }
+        is_step (denote (home_of state.now) (state_of state.now) t x result) ≡ steps result }
     ensures fits { (t : ℕ) (x : Thread) → Fits (home_of state.now) (state_of state.now) t x result }
 {
     if state.pool.has(PoolKind::Sync, n) && !is_some_tied(&state.threads, n as u8) {
-        Turn::Pool(PoolStep::FreeSync(n as u8))
+        SlotResult::Pool(PoolStep::FreeSync(n as u8))
     } else {
-        Turn::Trapped(Trap::Resource)
+        SlotResult::Trapped(Trap::Resource)
     }
 }
 
 /// FREER on a lock.
-pub fn free_lock(state: &State, n: u32) -> Turn
-    ensures means { (t : ℕ) (x : Thread) → meant (home_of state.now) (state_of state.now) t x result
+pub fn free_lock(state: &State, n: u32) -> SlotResult
+    ensures means { (t : ℕ) (x : Thread) → denote (home_of state.now) (state_of state.now) t x result
         ≡ free_row (state_of state.now) t x (ALock n) }
     ensures steps { (t : ℕ) (x : Thread) →
-        is_step (meant (home_of state.now) (state_of state.now) t x result) ≡ steps result }
+        is_step (denote (home_of state.now) (state_of state.now) t x result) ≡ steps result }
     ensures fits { (t : ℕ) (x : Thread) → Fits (home_of state.now) (state_of state.now) t x result }
 {
     let Some(lock) = state.locks.get(n as usize) else {
-        return Turn::Trapped(Trap::Resource);
+        return SlotResult::Trapped(Trap::Resource);
     };
     if lock.taken && lock.holder.is_none() {
-        Turn::Pool(PoolStep::FreeLock(n as u8))
+        SlotResult::Pool(PoolStep::FreeLock(n as u8))
     } else {
-        Turn::Trapped(Trap::Resource)
+        SlotResult::Trapped(Trap::Resource)
     }
 }
 
 /// GETST.
-pub fn get_thread(state: &State, d: Reg, name: Resource) -> Turn
-    ensures means { (t : ℕ) (x : Thread) → meant (home_of state.now) (state_of state.now) t x result
-        ≡ told (gets_with put_threads (state_of state.now) t x d) (on_sync (state_of state.now)
+pub fn get_thread(state: &State, d: Reg, name: Resource) -> SlotResult
+    ensures means { (t : ℕ) (x : Thread) → denote (home_of state.now) (state_of state.now) t x result
+        ≡ map_did (gets_with put_threads (state_of state.now) t x d) (on_sync (state_of state.now)
         (thread_got (home_of state.now).number (state_of state.now).threads) (meant_by name)) }
     ensures steps { (t : ℕ) (x : Thread) →
-        is_step (meant (home_of state.now) (state_of state.now) t x result) ≡ steps result }
+        is_step (denote (home_of state.now) (state_of state.now) t x result) ≡ steps result }
     ensures fits { (t : ℕ) (x : Thread) → Fits (home_of state.now) (state_of state.now) t x result }
 {
     let Resource::Sync(n) = name else {
-        return Turn::Trapped(Trap::Resource);
+        return SlotResult::Trapped(Trap::Resource);
     };
     if state.pool.has(PoolKind::Sync, n) {
-        Turn::Pool(PoolStep::GetThread(d, n as u8))
+        SlotResult::Pool(PoolStep::GetThread(d, n as u8))
     } else {
-        Turn::Trapped(Trap::Resource)
+        SlotResult::Trapped(Trap::Resource)
     }
 }
 
 /// TINITPC.
-pub fn set_pc(state: &State, name: Resource, k: u32) -> Turn
-    ensures means { (t : ℕ) (x : Thread) → meant (home_of state.now) (state_of state.now) t x result
-        ≡ told (goes_with put_threads (state_of state.now) t x) (on_thread (state_of state.now)
+pub fn set_pc(state: &State, name: Resource, k: u32) -> SlotResult
+    ensures means { (t : ℕ) (x : Thread) → denote (home_of state.now) (state_of state.now) t x result
+        ≡ map_did (goes_with put_threads (state_of state.now) t x) (on_thread (state_of state.now)
         (prepared (with_pc k) (state_of state.now).threads) (meant_by name)) }
     ensures steps { (t : ℕ) (x : Thread) →
-        is_step (meant (home_of state.now) (state_of state.now) t x result) ≡ steps result }
+        is_step (denote (home_of state.now) (state_of state.now) t x result) ≡ steps result }
     ensures fits { (t : ℕ) (x : Thread) → Fits (home_of state.now) (state_of state.now) t x result }
 {
     let Resource::Thread(n) = name else {
-        return Turn::Trapped(Trap::Resource);
+        return SlotResult::Trapped(Trap::Resource);
     };
     if waits(state, n) {
-        Turn::Pool(PoolStep::SetPc(n as u8, k))
+        SlotResult::Pool(PoolStep::SetPc(n as u8, k))
     } else {
-        Turn::Trapped(Trap::Resource)
+        SlotResult::Trapped(Trap::Resource)
     }
 }
 
 /// TINITDP and TINITSP.
-pub fn set_reg(state: &State, name: Resource, r: Reg, value: u32) -> Turn
-    ensures means { (t : ℕ) (x : Thread) → meant (home_of state.now) (state_of state.now) t x result
-        ≡ told (goes_with put_threads (state_of state.now) t x) (on_thread (state_of state.now)
+pub fn set_reg(state: &State, name: Resource, r: Reg, value: u32) -> SlotResult
+    ensures means { (t : ℕ) (x : Thread) → denote (home_of state.now) (state_of state.now) t x result
+        ≡ map_did (goes_with put_threads (state_of state.now) t x) (on_thread (state_of state.now)
         (prepared (with_reg r value) (state_of state.now).threads) (meant_by name)) }
     ensures steps { (t : ℕ) (x : Thread) →
-        is_step (meant (home_of state.now) (state_of state.now) t x result) ≡ steps result }
+        is_step (denote (home_of state.now) (state_of state.now) t x result) ≡ steps result }
     ensures fits { (t : ℕ) (x : Thread) → Fits (home_of state.now) (state_of state.now) t x result }
 {
     let Resource::Thread(n) = name else {
-        return Turn::Trapped(Trap::Resource);
+        return SlotResult::Trapped(Trap::Resource);
     };
     if waits(state, n) {
-        Turn::Pool(PoolStep::SetReg(n as u8, r, value))
+        SlotResult::Pool(PoolStep::SetReg(n as u8, r, value))
     } else {
-        Turn::Trapped(Trap::Resource)
+        SlotResult::Trapped(Trap::Resource)
     }
 }
 
 /// MSYNC.
-pub fn start(state: &State, name: Resource) -> Turn
-    ensures means { (t : ℕ) (x : Thread) → meant (home_of state.now) (state_of state.now) t x result
-        ≡ told (goes_with put_threads (state_of state.now) t x)
+pub fn start(state: &State, name: Resource) -> SlotResult
+    ensures means { (t : ℕ) (x : Thread) → denote (home_of state.now) (state_of state.now) t x result
+        ≡ map_did (goes_with put_threads (state_of state.now) t x)
         (on_sync (state_of state.now) (synced (state_of state.now).threads) (meant_by name)) }
     ensures steps { (t : ℕ) (x : Thread) →
-        is_step (meant (home_of state.now) (state_of state.now) t x result) ≡ steps result }
+        is_step (denote (home_of state.now) (state_of state.now) t x result) ≡ steps result }
     ensures fits { (t : ℕ) (x : Thread) → Fits (home_of state.now) (state_of state.now) t x result }
 {
     let Resource::Sync(n) = name else {
-        return Turn::Trapped(Trap::Resource);
+        return SlotResult::Trapped(Trap::Resource);
     };
     if !state.pool.has(PoolKind::Sync, n) {
-        return Turn::Trapped(Trap::Resource);
+        return SlotResult::Trapped(Trap::Resource);
     }
     if do_all_wait(&state.threads, n as u8) {
-        Turn::Pool(PoolStep::Start(n as u8))
+        SlotResult::Pool(PoolStep::Start(n as u8))
     } else {
-        Turn::Paused
+        SlotResult::Paused
     }
 }
 
 /// MJOIN.
-pub fn join(state: &State, name: Resource) -> Turn
-    ensures means { (t : ℕ) (x : Thread) → meant (home_of state.now) (state_of state.now) t x result
-        ≡ told (goes_with put_threads (state_of state.now) t x)
+pub fn join(state: &State, name: Resource) -> SlotResult
+    ensures means { (t : ℕ) (x : Thread) → denote (home_of state.now) (state_of state.now) t x result
+        ≡ map_did (goes_with put_threads (state_of state.now) t x)
         (on_sync (state_of state.now) (joined (state_of state.now).threads) (meant_by name)) }
     ensures steps { (t : ℕ) (x : Thread) →
-        is_step (meant (home_of state.now) (state_of state.now) t x result) ≡ steps result }
+        is_step (denote (home_of state.now) (state_of state.now) t x result) ≡ steps result }
     ensures fits { (t : ℕ) (x : Thread) → Fits (home_of state.now) (state_of state.now) t x result }
 {
     let Resource::Sync(n) = name else {
-        return Turn::Trapped(Trap::Resource);
+        return SlotResult::Trapped(Trap::Resource);
     };
     if !state.pool.has(PoolKind::Sync, n) {
-        return Turn::Trapped(Trap::Resource);
+        return SlotResult::Trapped(Trap::Resource);
     }
     if do_all_wait(&state.threads, n as u8) {
-        Turn::Pool(PoolStep::Join(n as u8))
+        SlotResult::Pool(PoolStep::Join(n as u8))
     } else {
-        Turn::Paused
+        SlotResult::Paused
     }
 }
 
 /// SSYNC.
-pub fn wait(thread: &Thread) -> Turn
-    ensures means { (home : Home) (core : CoreState) (t : ℕ) → meant home core t thread.now result
+pub fn wait(thread: &Thread) -> SlotResult
+    ensures means { (home : Home) (core : CoreState) (t : ℕ) → denote home core t thread.now result
         ≡ wait_row core t thread.now thread.now.tie }
     ensures steps { (home : Home) (core : CoreState) (t : ℕ) →
-        is_step (meant home core t thread.now result) ≡ steps result }
+        is_step (denote home core t thread.now result) ≡ steps result }
     ensures fits { (home : Home) (core : CoreState) (t : ℕ) → Fits home core t thread.now result }
 {
     match thread.tie {
-        None => Turn::Trapped(Trap::Resource),
-        Some(_) => Turn::Pool(PoolStep::Wait),
+        None => SlotResult::Trapped(Trap::Resource),
+        Some(_) => SlotResult::Pool(PoolStep::Wait),
     }
 }
 
 /// FREET.
-pub fn end(thread: &Thread) -> Turn
-    ensures means { (home : Home) (core : CoreState) (t : ℕ) → meant home core t thread.now result
+pub fn end(thread: &Thread) -> SlotResult
+    ensures means { (home : Home) (core : CoreState) (t : ℕ) → denote home core t thread.now result
         ≡ end_row core t thread.now thread.now.tie }
     ensures steps { (home : Home) (core : CoreState) (t : ℕ) →
-        is_step (meant home core t thread.now result) ≡ steps result }
+        is_step (denote home core t thread.now result) ≡ steps result }
     ensures fits { (home : Home) (core : CoreState) (t : ℕ) → Fits home core t thread.now result }
 {
     match thread.tie {
-        None => Turn::Pool(PoolStep::End),
-        Some(_) => Turn::Trapped(Trap::Resource),
+        None => SlotResult::Pool(PoolStep::End),
+        Some(_) => SlotResult::Trapped(Trap::Resource),
     }
 }
 
 /// IN on a lock.
-pub fn hold(state: &State, d: Reg, n: u32, name: u32) -> Turn
-    ensures means { (t : ℕ) (x : Thread) → meant (home_of state.now) (state_of state.now) t x result
+pub fn hold(state: &State, d: Reg, n: u32, name: u32) -> SlotResult
+    ensures means { (t : ℕ) (x : Thread) → denote (home_of state.now) (state_of state.now) t x result
         ≡ in_row (home_of state.now) (state_of state.now) t x d name (ALock n) }
     ensures steps { (t : ℕ) (x : Thread) →
-        is_step (meant (home_of state.now) (state_of state.now) t x result) ≡ steps result }
+        is_step (denote (home_of state.now) (state_of state.now) t x result) ≡ steps result }
     ensures fits { (t : ℕ) (x : Thread) → Fits (home_of state.now) (state_of state.now) t x result }
 {
     let Some(lock) = state.locks.get(n as usize) else {
-        return Turn::Trapped(Trap::Resource);
+        return SlotResult::Trapped(Trap::Resource);
     };
     if !lock.taken {
-        return Turn::Trapped(Trap::Resource);
+        return SlotResult::Trapped(Trap::Resource);
     }
     match lock.holder {
-        None => Turn::Pool(PoolStep::Hold(d, n as u8, name)),
-        Some(_) => Turn::Paused,
+        None => SlotResult::Pool(PoolStep::Hold(d, n as u8, name)),
+        Some(_) => SlotResult::Paused,
     }
 }
 
 /// OUT on a lock.
-pub fn give_back(state: &State, t: u8, n: u32) -> Turn
-    ensures means { (value : ℕ) (x : Thread) → meant (home_of state.now) (state_of state.now) t x
+pub fn give_back(state: &State, t: u8, n: u32) -> SlotResult
+    ensures means { (value : ℕ) (x : Thread) → denote (home_of state.now) (state_of state.now) t x
         result ≡ out_row (home_of state.now) (state_of state.now) t x value (ALock n) }
     ensures steps { (x : Thread) →
-        is_step (meant (home_of state.now) (state_of state.now) t x result) ≡ steps result }
+        is_step (denote (home_of state.now) (state_of state.now) t x result) ≡ steps result }
     ensures fits { (x : Thread) → Fits (home_of state.now) (state_of state.now) t x result }
 {
     let Some(lock) = state.locks.get(n as usize) else {
-        return Turn::Trapped(Trap::Resource);
+        return SlotResult::Trapped(Trap::Resource);
     };
     if lock.taken && lock.holder == Some(t) {
-        Turn::Pool(PoolStep::GiveBack(n as u8))
+        SlotResult::Pool(PoolStep::GiveBack(n as u8))
     } else {
-        Turn::Trapped(Trap::Resource)
+        SlotResult::Trapped(Trap::Resource)
     }
 }
 

@@ -5,19 +5,19 @@ ghost use Rattle.xs_core.specs.Ports.{port_did, PortFits};
 ghost use Rattle.xs_core.specs.Idle.{KeepsOthers};
 ghost use Rattle.xs_core.specs.Names.{meant_by};
 ghost use Rattle.xs_core.specs.Seen.{home_of, state_of, thread_at};
-ghost use Rattle.xs_core.specs.Turns.{meant, steps, Fits, IsMade, Keeps};
+ghost use Rattle.xs_core.specs.SlotResults.{denote, steps, Fits, IsMade, Keeps};
 ghost use Rattle.xs_instr.specs.declared.trace.Record.TheVariants.{PortIn, PortOut};
-ghost use Rattle.xs_instr.specs.Did.{is_step, told};
+ghost use Rattle.xs_instr.specs.Did.{is_step, map_did};
 ghost use Rattle.xs_instr.specs.Ports.{can_send, can_receive, port_time_set, port_stamp};
 ghost use Rattle.xs_instr.specs.Resources.{APort, ATimer, on_port};
 ghost use Rattle.xs_instr.specs.Rows.{out_row, in_row, cond_row, data_row, goes_with, gets_with, put_ports};
 ghost use Rattle.xs_instr.specs.Timers.{timer_meets};
 
+use crate::local_rows::LocalStep;
 use crate::names::Resource;
-use crate::own_rows::OwnStep;
+use crate::slot_result::SlotResult;
 use crate::state::State;
 use crate::threads::{pass, pass_with};
-use crate::turn::Turn;
 use xs_instr::{Cond, Dir, PortGot, Record, Reg, Thread, Timer, Trap};
 use xw_words::after;
 
@@ -43,156 +43,156 @@ pub enum PortStep {
 }
 
 /// OUT on a port.
-pub fn drive(state: &State, p: u32, value: u32) -> Turn
-    ensures means { (t : ℕ) (x : Thread) → meant (home_of state.now) (state_of state.now) t x result
+pub fn drive(state: &State, p: u32, value: u32) -> SlotResult
+    ensures means { (t : ℕ) (x : Thread) → denote (home_of state.now) (state_of state.now) t x result
         ≡ out_row (home_of state.now) (state_of state.now) t x value (APort p) }
     ensures steps { (t : ℕ) (x : Thread) →
-        is_step (meant (home_of state.now) (state_of state.now) t x result) ≡ steps result }
+        is_step (denote (home_of state.now) (state_of state.now) t x result) ≡ steps result }
     ensures fits { (t : ℕ) (x : Thread) → Fits (home_of state.now) (state_of state.now) t x result }
 {
     if !state.ports.has(p) || !sends(state.ports.decl(p).dir) {
-        return Turn::Trapped(Trap::Resource);
+        return SlotResult::Trapped(Trap::Resource);
     }
     if state.ports.can_drive(p) {
-        Turn::Port(PortStep::Drive(p, value))
+        SlotResult::Port(PortStep::Drive(p, value))
     } else {
-        Turn::Paused
+        SlotResult::Paused
     }
 }
 
 /// IN on a port.
-pub fn read_port(state: &State, d: Reg, p: u32) -> Turn
-    ensures means { (t name : ℕ) (x : Thread) → meant (home_of state.now) (state_of state.now) t x
+pub fn read_port(state: &State, d: Reg, p: u32) -> SlotResult
+    ensures means { (t name : ℕ) (x : Thread) → denote (home_of state.now) (state_of state.now) t x
         result ≡ in_row (home_of state.now) (state_of state.now) t x d name (APort p) }
     ensures steps { (t : ℕ) (x : Thread) →
-        is_step (meant (home_of state.now) (state_of state.now) t x result) ≡ steps result }
+        is_step (denote (home_of state.now) (state_of state.now) t x result) ≡ steps result }
     ensures fits { (t : ℕ) (x : Thread) → Fits (home_of state.now) (state_of state.now) t x result }
 {
     if !state.ports.has(p) || !receives(state.ports.decl(p).dir) {
-        return Turn::Trapped(Trap::Resource);
+        return SlotResult::Trapped(Trap::Resource);
     }
     if state.ports.can_read(p) {
-        Turn::Port(PortStep::Read(d, p))
+        SlotResult::Port(PortStep::Read(d, p))
     } else {
-        Turn::Paused
+        SlotResult::Paused
     }
 }
 
 /// IN on a timer.
-pub fn read_clock(state: &State, d: Reg, n: u32) -> Turn
-    ensures means { (t name : ℕ) (x : Thread) → meant (home_of state.now) (state_of state.now) t x
+pub fn read_clock(state: &State, d: Reg, n: u32) -> SlotResult
+    ensures means { (t name : ℕ) (x : Thread) → denote (home_of state.now) (state_of state.now) t x
         result ≡ in_row (home_of state.now) (state_of state.now) t x d name (ATimer n) }
     ensures steps { (t : ℕ) (x : Thread) →
-        is_step (meant (home_of state.now) (state_of state.now) t x result) ≡ steps result }
+        is_step (denote (home_of state.now) (state_of state.now) t x result) ≡ steps result }
     ensures fits { (t : ℕ) (x : Thread) → Fits (home_of state.now) (state_of state.now) t x result }
 {
     let Some(timer) = state.timers.get(n as usize) else {
-        return Turn::Trapped(Trap::Resource);
+        return SlotResult::Trapped(Trap::Resource);
     };
     if timer.latch.is_some() || passes(timer, state.ports.clock()) {
-        Turn::Port(PortStep::Clock(d, n))
+        SlotResult::Port(PortStep::Clock(d, n))
     } else {
-        Turn::Paused
+        SlotResult::Paused
     }
 }
 
 /// SETC on a port.
-pub fn set_port_cond(state: &State, p: u32, cond: Cond) -> Turn
-    ensures means { (t : ℕ) (x : Thread) → meant (home_of state.now) (state_of state.now) t x result
+pub fn set_port_cond(state: &State, p: u32, cond: Cond) -> SlotResult
+    ensures means { (t : ℕ) (x : Thread) → denote (home_of state.now) (state_of state.now) t x result
         ≡ cond_row (state_of state.now) t x cond (APort p) }
     ensures steps { (t : ℕ) (x : Thread) →
-        is_step (meant (home_of state.now) (state_of state.now) t x result) ≡ steps result }
+        is_step (denote (home_of state.now) (state_of state.now) t x result) ≡ steps result }
     ensures fits { (t : ℕ) (x : Thread) → Fits (home_of state.now) (state_of state.now) t x result }
 {
     if state.ports.has(p) && cond != Cond::After {
-        Turn::Port(PortStep::PortCond(p, cond))
+        SlotResult::Port(PortStep::PortCond(p, cond))
     } else {
-        Turn::Trapped(Trap::Resource)
+        SlotResult::Trapped(Trap::Resource)
     }
 }
 
 /// SETC on a timer.
-pub fn set_timer_cond(state: &State, n: u32, cond: Cond) -> Turn
-    ensures means { (t : ℕ) (x : Thread) → meant (home_of state.now) (state_of state.now) t x result
+pub fn set_timer_cond(state: &State, n: u32, cond: Cond) -> SlotResult
+    ensures means { (t : ℕ) (x : Thread) → denote (home_of state.now) (state_of state.now) t x result
         ≡ cond_row (state_of state.now) t x cond (ATimer n) }
     ensures steps { (t : ℕ) (x : Thread) →
-        is_step (meant (home_of state.now) (state_of state.now) t x result) ≡ steps result }
+        is_step (denote (home_of state.now) (state_of state.now) t x result) ≡ steps result }
     ensures fits { (t : ℕ) (x : Thread) → Fits (home_of state.now) (state_of state.now) t x result }
 {
     if state.timers.get(n as usize).is_none() {
-        return Turn::Trapped(Trap::Resource);
+        return SlotResult::Trapped(Trap::Resource);
     }
     match cond {
-        Cond::None | Cond::After => Turn::Port(PortStep::TimerCond(n, cond)),
-        Cond::Eq | Cond::Neq => Turn::Trapped(Trap::Resource),
+        Cond::None | Cond::After => SlotResult::Port(PortStep::TimerCond(n, cond)),
+        Cond::Eq | Cond::Neq => SlotResult::Trapped(Trap::Resource),
     }
 }
 
 /// SETD on a port.
-pub fn set_port_data(state: &State, p: u32, value: u32) -> Turn
-    ensures means { (t : ℕ) (x : Thread) → meant (home_of state.now) (state_of state.now) t x result
+pub fn set_port_data(state: &State, p: u32, value: u32) -> SlotResult
+    ensures means { (t : ℕ) (x : Thread) → denote (home_of state.now) (state_of state.now) t x result
         ≡ data_row (state_of state.now) t x value (APort p) }
     ensures steps { (t : ℕ) (x : Thread) →
-        is_step (meant (home_of state.now) (state_of state.now) t x result) ≡ steps result }
+        is_step (denote (home_of state.now) (state_of state.now) t x result) ≡ steps result }
     ensures fits { (t : ℕ) (x : Thread) → Fits (home_of state.now) (state_of state.now) t x result }
 {
     if state.ports.has(p) {
-        Turn::Port(PortStep::PortData(p, value))
+        SlotResult::Port(PortStep::PortData(p, value))
     } else {
-        Turn::Trapped(Trap::Resource)
+        SlotResult::Trapped(Trap::Resource)
     }
 }
 
 /// SETD on a timer.
-pub fn set_timer_data(state: &State, n: u32, value: u32) -> Turn
-    ensures means { (t : ℕ) (x : Thread) → meant (home_of state.now) (state_of state.now) t x result
+pub fn set_timer_data(state: &State, n: u32, value: u32) -> SlotResult
+    ensures means { (t : ℕ) (x : Thread) → denote (home_of state.now) (state_of state.now) t x result
         ≡ data_row (state_of state.now) t x value (ATimer n) }
     ensures steps { (t : ℕ) (x : Thread) →
-        is_step (meant (home_of state.now) (state_of state.now) t x result) ≡ steps result }
+        is_step (denote (home_of state.now) (state_of state.now) t x result) ≡ steps result }
     ensures fits { (t : ℕ) (x : Thread) → Fits (home_of state.now) (state_of state.now) t x result }
 {
     if state.timers.get(n as usize).is_some() {
-        Turn::Port(PortStep::TimerData(n, value))
+        SlotResult::Port(PortStep::TimerData(n, value))
     } else {
-        Turn::Trapped(Trap::Resource)
+        SlotResult::Trapped(Trap::Resource)
     }
 }
 
 /// SETPT on a port.
-pub fn set_time(state: &State, name: Resource, value: u32) -> Turn
-    ensures means { (t : ℕ) (x : Thread) → meant (home_of state.now) (state_of state.now) t x result
-        ≡ told (goes_with put_ports (state_of state.now) t x) (on_port (state_of state.now)
+pub fn set_time(state: &State, name: Resource, value: u32) -> SlotResult
+    ensures means { (t : ℕ) (x : Thread) → denote (home_of state.now) (state_of state.now) t x result
+        ≡ map_did (goes_with put_ports (state_of state.now) t x) (on_port (state_of state.now)
         (port_time_set value (state_of state.now).ports) (meant_by name)) }
     ensures steps { (t : ℕ) (x : Thread) →
-        is_step (meant (home_of state.now) (state_of state.now) t x result) ≡ steps result }
+        is_step (denote (home_of state.now) (state_of state.now) t x result) ≡ steps result }
     ensures fits { (t : ℕ) (x : Thread) → Fits (home_of state.now) (state_of state.now) t x result }
 {
     let Resource::Port(p) = name else {
-        return Turn::Trapped(Trap::Resource);
+        return SlotResult::Trapped(Trap::Resource);
     };
     if state.ports.has(p) {
-        Turn::Port(PortStep::PortTime(p, value))
+        SlotResult::Port(PortStep::PortTime(p, value))
     } else {
-        Turn::Trapped(Trap::Resource)
+        SlotResult::Trapped(Trap::Resource)
     }
 }
 
 /// GETTS on a port.
-pub fn stamp(state: &State, d: Reg, name: Resource) -> Turn
-    ensures means { (t : ℕ) (x : Thread) → meant (home_of state.now) (state_of state.now) t x result
-        ≡ told (gets_with put_ports (state_of state.now) t x d)
+pub fn stamp(state: &State, d: Reg, name: Resource) -> SlotResult
+    ensures means { (t : ℕ) (x : Thread) → denote (home_of state.now) (state_of state.now) t x result
+        ≡ map_did (gets_with put_ports (state_of state.now) t x d)
         (on_port (state_of state.now) (port_stamp (state_of state.now).ports) (meant_by name)) }
     ensures steps { (t : ℕ) (x : Thread) →
-        is_step (meant (home_of state.now) (state_of state.now) t x result) ≡ steps result }
+        is_step (denote (home_of state.now) (state_of state.now) t x result) ≡ steps result }
     ensures fits { (t : ℕ) (x : Thread) → Fits (home_of state.now) (state_of state.now) t x result }
 {
     let Resource::Port(p) = name else {
-        return Turn::Trapped(Trap::Resource);
+        return SlotResult::Trapped(Trap::Resource);
     };
     if state.ports.has(p) {
-        Turn::Own(OwnStep::Set(d, state.ports.stamp(p) as u32))
+        SlotResult::Local(LocalStep::Set(d, state.ports.stamp(p) as u32))
     } else {
-        Turn::Trapped(Trap::Resource)
+        SlotResult::Trapped(Trap::Resource)
     }
 }
 

@@ -2,9 +2,9 @@
 
 ghost use Rattle.std.specs.Prelude.{◌≡◌, ◌≤◌, ◌%◌, ◌^◌, ℕ, true};
 ghost use Rattle.xs_core.specs.Names.{meant_by};
-ghost use Rattle.xs_core.specs.Own.{is_own};
+ghost use Rattle.xs_core.specs.Local.{is_local};
 ghost use Rattle.xs_core.specs.Seen.{home_of, state_of};
-ghost use Rattle.xs_core.specs.Turns.{meant, steps, Fits, HasByte};
+ghost use Rattle.xs_core.specs.SlotResults.{denote, steps, Fits, HasByte};
 ghost use Rattle.xs_instr.specs.declared.image.Home.{Home};
 ghost use Rattle.xs_instr.specs.declared.state.CoreState.{CoreState};
 ghost use Rattle.xs_instr.specs.Did.{is_step};
@@ -14,18 +14,18 @@ ghost use Rattle.xs_instr.specs.Rows.{cond_row, data_row, free_row, get_row, in_
 use crate::event_rows::EventStep;
 use crate::names::{Resource, look_up};
 use crate::pool_rows::PoolStep;
+use crate::slot_result::SlotResult;
 use crate::state::State;
-use crate::turn::Turn;
-use crate::{end_rows, event_rows, own_rows, pool_rows, port_rows};
+use crate::{end_rows, event_rows, local_rows, pool_rows, port_rows};
 use xs_instr::{Cond, GetKind, Instr, Reg, Thread, Token, Trap};
 use xs_state::Registers;
 
 /// What comes of a thread's instruction.
-pub fn row(state: &State, t: u8, thread: &Thread, instr: Instr) -> Turn
+pub fn row(state: &State, t: u8, thread: &Thread, instr: Instr) -> SlotResult
     requires { HasByte instr }
-    ensures means { meant (home_of state.now) (state_of state.now) t thread.now result
+    ensures means { denote (home_of state.now) (state_of state.now) t thread.now result
         ≡ row_of (home_of state.now) (state_of state.now) t thread.now instr }
-    ensures steps { is_step (meant (home_of state.now) (state_of state.now) t thread.now result)
+    ensures steps { is_step (denote (home_of state.now) (state_of state.now) t thread.now result)
         ≡ steps result }
     ensures fits { Fits (home_of state.now) (state_of state.now) t thread.now result }
 {
@@ -63,8 +63,8 @@ pub fn row(state: &State, t: u8, thread: &Thread, instr: Instr) -> Turn
         Instr::Setv(r, k) => event_rows::set_vector(state, look_up(core, regs.get(r)), k),
         Instr::Eeu(r) => event_rows::enable(state, look_up(core, regs.get(r))),
         Instr::Edu(r) => event_rows::disable(state, look_up(core, regs.get(r))),
-        Instr::Clre => Turn::Event(EventStep::Clear),
-        Instr::Waiteu => Turn::Paused,
+        Instr::Clre => SlotResult::Event(EventStep::Clear),
+        Instr::Waiteu => SlotResult::Paused,
         Instr::Setsr(n) => event_rows::set_bit(thread, n),
         Instr::Clrsr(n) => event_rows::clear_bit(thread, n),
         _ => own(state, thread, instr),
@@ -72,72 +72,72 @@ pub fn row(state: &State, t: u8, thread: &Thread, instr: Instr) -> Turn
 }
 
 /// A row of registers, memory or flow.
-fn own(state: &State, thread: &Thread, instr: Instr) -> Turn
-    requires { is_own instr ≡ true }
-    ensures means { (t : ℕ) → meant (home_of state.now) (state_of state.now) t thread.now result
+fn own(state: &State, thread: &Thread, instr: Instr) -> SlotResult
+    requires { is_local instr ≡ true }
+    ensures means { (t : ℕ) → denote (home_of state.now) (state_of state.now) t thread.now result
         ≡ row_of (home_of state.now) (state_of state.now) t thread.now instr }
     ensures steps { (t : ℕ) → is_step
-        (meant (home_of state.now) (state_of state.now) t thread.now result) ≡ steps result }
+        (denote (home_of state.now) (state_of state.now) t thread.now result) ≡ steps result }
     ensures fits { (t : ℕ) → Fits (home_of state.now) (state_of state.now) t thread.now result }
 {
-    match own_rows::step(thread, &state.words, instr) {
-        Ok(step) => Turn::Own(step),
-        Err(kind) => Turn::Trapped(kind),
+    match local_rows::step(thread, &state.words, instr) {
+        Ok(step) => SlotResult::Local(step),
+        Err(kind) => SlotResult::Trapped(kind),
     }
 }
 
 /// GETR.
-fn get(d: Reg, kind: GetKind) -> Turn
+fn get(d: Reg, kind: GetKind) -> SlotResult
     ensures means { (home : Home) (core : CoreState) (t : ℕ) (x : Thread) →
-        meant home core t x result ≡ get_row home core t x d kind }
+        denote home core t x result ≡ get_row home core t x d kind }
     ensures steps { (home : Home) (core : CoreState) (t : ℕ) (x : Thread) →
-        is_step (meant home core t x result) ≡ steps result }
+        is_step (denote home core t x result) ≡ steps result }
     ensures fits { (home : Home) (core : CoreState) (t : ℕ) (x : Thread) →
         Fits home core t x result }
 {
     match kind {
-        GetKind::Sync => Turn::Pool(PoolStep::GetSync(d)),
-        GetKind::Lock => Turn::Pool(PoolStep::GetLock(d)),
+        GetKind::Sync => SlotResult::Pool(PoolStep::GetSync(d)),
+        GetKind::Lock => SlotResult::Pool(PoolStep::GetLock(d)),
     }
 }
 
 /// FREER, by what is named.
-fn free(state: &State, name: Resource) -> Turn
-    ensures means { (t : ℕ) (x : Thread) → meant (home_of state.now) (state_of state.now) t x result
+fn free(state: &State, name: Resource) -> SlotResult
+    ensures means { (t : ℕ) (x : Thread) → denote (home_of state.now) (state_of state.now) t x result
         ≡ free_row (state_of state.now) t x (meant_by name) }
     ensures steps { (t : ℕ) (x : Thread) →
-        is_step (meant (home_of state.now) (state_of state.now) t x result) ≡ steps result }
+        is_step (denote (home_of state.now) (state_of state.now) t x result) ≡ steps result }
     ensures fits { (t : ℕ) (x : Thread) → Fits (home_of state.now) (state_of state.now) t x result }
 {
     match name {
         Resource::Sync(n) => pool_rows::free_sync(state, n),
         Resource::Lock(n) => pool_rows::free_lock(state, n),
-        _ => Turn::Trapped(Trap::Resource),
+        _ => SlotResult::Trapped(Trap::Resource),
     }
 }
 
 /// OUT, by what is named.
-fn output(state: &State, t: u8, name: Resource, value: u32) -> Turn
-    ensures means { (x : Thread) → meant (home_of state.now) (state_of state.now) t x result
+fn output(state: &State, t: u8, name: Resource, value: u32) -> SlotResult
+    ensures means { (x : Thread) → denote (home_of state.now) (state_of state.now) t x result
         ≡ out_row (home_of state.now) (state_of state.now) t x value (meant_by name) }
     ensures steps { (x : Thread) →
-        is_step (meant (home_of state.now) (state_of state.now) t x result) ≡ steps result }
+        is_step (denote (home_of state.now) (state_of state.now) t x result) ≡ steps result }
     ensures fits { (x : Thread) → Fits (home_of state.now) (state_of state.now) t x result }
 {
     match name {
         Resource::Port(p) => port_rows::drive(state, p, value),
         Resource::End(e) => end_rows::send_word(state, e, value),
         Resource::Lock(n) => pool_rows::give_back(state, t, n),
-        _ => Turn::Trapped(Trap::Resource),
+        _ => SlotResult::Trapped(Trap::Resource),
     }
 }
 
 /// IN, by what is named.
-fn input(state: &State, d: Reg, name: Resource, identifier: u32) -> Turn
-    ensures means { (t : ℕ) (x : Thread) → meant (home_of state.now) (state_of state.now) t x result
+fn input(state: &State, d: Reg, name: Resource, identifier: u32) -> SlotResult
+    ensures means { (t : ℕ) (x : Thread) → denote (home_of state.now) (state_of state.now) t x result
         ≡ in_row (home_of state.now) (state_of state.now) t x d identifier (meant_by name) }
     ensures steps { (t : ℕ) (x : Thread) →
-        is_step (meant (home_of state.now) (state_of state.now) t x result) ≡ steps result }
+        is_step (denote (home_of state.now) (state_of state.now) t x result) ≡ steps result }
     ensures fits { (t : ℕ) (x : Thread) → Fits (home_of state.now) (state_of state.now) t x result }
 {
     match name {
@@ -145,37 +145,37 @@ fn input(state: &State, d: Reg, name: Resource, identifier: u32) -> Turn
         Resource::Timer(n) => port_rows::read_clock(state, d, n),
         Resource::End(e) => end_rows::take_word(state, d, e),
         Resource::Lock(n) => pool_rows::hold(state, d, n, identifier),
-        _ => Turn::Trapped(Trap::Resource),
+        _ => SlotResult::Trapped(Trap::Resource),
     }
 }
 
 /// SETC, by what is named.
-fn set_cond(state: &State, name: Resource, cond: Cond) -> Turn
-    ensures means { (t : ℕ) (x : Thread) → meant (home_of state.now) (state_of state.now) t x result
+fn set_cond(state: &State, name: Resource, cond: Cond) -> SlotResult
+    ensures means { (t : ℕ) (x : Thread) → denote (home_of state.now) (state_of state.now) t x result
         ≡ cond_row (state_of state.now) t x cond (meant_by name) }
     ensures steps { (t : ℕ) (x : Thread) →
-        is_step (meant (home_of state.now) (state_of state.now) t x result) ≡ steps result }
+        is_step (denote (home_of state.now) (state_of state.now) t x result) ≡ steps result }
     ensures fits { (t : ℕ) (x : Thread) → Fits (home_of state.now) (state_of state.now) t x result }
 {
     match name {
         Resource::Port(p) => port_rows::set_port_cond(state, p, cond),
         Resource::Timer(n) => port_rows::set_timer_cond(state, n, cond),
-        _ => Turn::Trapped(Trap::Resource),
+        _ => SlotResult::Trapped(Trap::Resource),
     }
 }
 
 /// SETD, by what is named.
-fn set_data(state: &State, name: Resource, value: u32) -> Turn
-    ensures means { (t : ℕ) (x : Thread) → meant (home_of state.now) (state_of state.now) t x result
+fn set_data(state: &State, name: Resource, value: u32) -> SlotResult
+    ensures means { (t : ℕ) (x : Thread) → denote (home_of state.now) (state_of state.now) t x result
         ≡ data_row (state_of state.now) t x value (meant_by name) }
     ensures steps { (t : ℕ) (x : Thread) →
-        is_step (meant (home_of state.now) (state_of state.now) t x result) ≡ steps result }
+        is_step (denote (home_of state.now) (state_of state.now) t x result) ≡ steps result }
     ensures fits { (t : ℕ) (x : Thread) → Fits (home_of state.now) (state_of state.now) t x result }
 {
     match name {
         Resource::Port(p) => port_rows::set_port_data(state, p, value),
         Resource::Timer(n) => port_rows::set_timer_data(state, n, value),
-        _ => Turn::Trapped(Trap::Resource),
+        _ => SlotResult::Trapped(Trap::Resource),
     }
 }
 

@@ -5,27 +5,27 @@ ghost use Rattle.xs_core.specs.Idle.{AreUnusedFrom};
 ghost use Rattle.xs_core.specs.Order.{IsInOrder, KeepsHome};
 ghost use Rattle.xs_core.specs.Seen.{home_of, state_of, thread_at};
 ghost use Rattle.xs_core.specs.Slots.{IsTurn};
-ghost use Rattle.xs_core.specs.declared.turn.Turn.TheVariants.{Own};
-ghost use Rattle.xs_core.specs.Turns.{meant, steps, Fits, MayGoOn};
+ghost use Rattle.xs_core.specs.declared.slot_result.SlotResult.TheVariants.{Local};
+ghost use Rattle.xs_core.specs.SlotResults.{denote, steps, Fits, MayGoOn};
 ghost use Rattle.xs_instr.specs.Did.{is_step};
 ghost use Rattle.xs_instr.specs.Slot.{instr_at, is_ready, pos_at, runs_on, slot, takes_events as takes_events_of};
 
 use crate::did::Did;
-use crate::own_rows::OwnStep;
+use crate::local_rows::LocalStep;
 use crate::ready::pick;
 use crate::rows::row;
+use crate::slot_result::SlotResult;
 use crate::state::State;
-use crate::turn::Turn;
-use crate::{end_rows, event_rows, own_rows, pool_rows, port_rows, threads};
+use crate::{end_rows, event_rows, local_rows, pool_rows, port_rows, threads};
 use circular_buffer::HeapCircularBuffer;
 use xs_instr::{Instr, Mode, Sent, Thread, Trap};
 use xw_words::Pos;
 
 /// What comes of the turn of thread `t`.
-pub fn decide(state: &State, t: u8) -> Turn
+pub fn decide(state: &State, t: u8) -> SlotResult
     requires there { t < 8 }
     requires order { IsInOrder state.now }
-    ensures means { meant (home_of state.now) (state_of state.now) t
+    ensures means { denote (home_of state.now) (state_of state.now) t
         (thread_at state.now.threads t) result ≡ slot (home_of state.now) (state_of state.now) t }
     ensures steps { steps result ≡ is_ready (home_of state.now) (state_of state.now) t }
     ensures fits { Fits (home_of state.now) (state_of state.now) t
@@ -34,19 +34,19 @@ pub fn decide(state: &State, t: u8) -> Turn
 {
     let thread = &state.threads[t as usize];
     match thread.mode {
-        Mode::Unused | Mode::Trapped => Turn::Idle,
-        Mode::Waiting => Turn::Paused,
+        Mode::Unused | Mode::Trapped => SlotResult::Idle,
+        Mode::Waiting => SlotResult::Paused,
         Mode::Running => run(state, t, thread),
     }
 }
 
 /// What comes of the turn of a running thread: an event, where it takes events and one is there, else its instruction.
-fn run(state: &State, t: u8, thread: &Thread) -> Turn
+fn run(state: &State, t: u8, thread: &Thread) -> SlotResult
     requires order { IsInOrder state.now }
-    ensures means { meant (home_of state.now) (state_of state.now) t thread.now result
+    ensures means { denote (home_of state.now) (state_of state.now) t thread.now result
         ≡ runs_on (home_of state.now) (state_of state.now) t thread.now
         (instr_at (home_of state.now) thread.now.pc) }
-    ensures steps { is_step (meant (home_of state.now) (state_of state.now) t thread.now result)
+    ensures steps { is_step (denote (home_of state.now) (state_of state.now) t thread.now result)
         ≡ steps result }
     ensures fits { Fits (home_of state.now) (state_of state.now) t thread.now result }
     ensures room { MayGoOn thread.now.pc result }
@@ -60,11 +60,11 @@ fn run(state: &State, t: u8, thread: &Thread) -> Turn
         .copied();
     if takes_events(thread, instr) {
         if let Some(res) = pick(state, t) {
-            return Turn::Take(res);
+            return SlotResult::Take(res);
         }
     }
     match instr {
-        None => Turn::Trapped(Trap::Code),
+        None => SlotResult::Trapped(Trap::Code),
         Some(instr) => row(state, t, thread, instr),
     }
 }
@@ -97,9 +97,9 @@ pub fn take(state: &mut State, outbox: &mut HeapCircularBuffer<Sent>, in_use: &m
     ensures less { in_use.new ≤ 8 }
     ensures rest { AreUnusedFrom in_use.new state.new.threads }
 {
-    match own_step(state, t) {
+    match local_step(state, t) {
         Some(step) => {
-            own_rows::apply(&mut state.threads, &mut state.words, t, step);
+            local_rows::apply(&mut state.threads, &mut state.words, t, step);
             Did::Made(None)
         }
         None => take_any(state, outbox, in_use, t),
@@ -108,14 +108,14 @@ pub fn take(state: &mut State, outbox: &mut HeapCircularBuffer<Sent>, in_use: &m
 
 /// The step in registers, memory and flow that thread `t` makes at its turn. `None` where its turn is another, or may be.
 #[inline(always)]
-fn own_step(state: &State, t: u8) -> Option<OwnStep>
+fn local_step(state: &State, t: u8) -> Option<LocalStep>
     requires there { t < 8 }
     requires order { IsInOrder state.now }
     ensures means { IfSome result (λ step. slot (home_of state.now) (state_of state.now) t
-        ≡ meant (home_of state.now) (state_of state.now) t (thread_at state.now.threads t) (Own step)) }
+        ≡ denote (home_of state.now) (state_of state.now) t (thread_at state.now.threads t) (Local step)) }
     ensures fits { IfSome result (λ step. Fits (home_of state.now) (state_of state.now) t
-        (thread_at state.now.threads t) (Own step)) }
-    ensures room { IfSome result (λ step. MayGoOn (thread_at state.now.threads t).pc (Own step)) }
+        (thread_at state.now.threads t) (Local step)) }
+    ensures room { IfSome result (λ step. MayGoOn (thread_at state.now.threads t).pc (Local step)) }
 {
     let thread = &state.threads[t as usize];
     match thread.mode {
@@ -126,24 +126,24 @@ fn own_step(state: &State, t: u8) -> Option<OwnStep>
 
 /// The same of a running thread.
 #[inline(always)]
-fn run_alone(state: &State, thread: &Thread) -> Option<OwnStep>
+fn run_alone(state: &State, thread: &Thread) -> Option<LocalStep>
     requires order { IsInOrder state.now }
     ensures means { (t : ℕ) → IfSome result (λ step.
-        meant (home_of state.now) (state_of state.now) t thread.now (Own step)
+        denote (home_of state.now) (state_of state.now) t thread.now (Local step)
         ≡ runs_on (home_of state.now) (state_of state.now) t thread.now
         (instr_at (home_of state.now) thread.now.pc)) }
     ensures fits { (t : ℕ) → IfSome result (λ step.
-        Fits (home_of state.now) (state_of state.now) t thread.now (Own step)) }
-    ensures room { IfSome result (λ step. MayGoOn thread.now.pc (Own step)) }
+        Fits (home_of state.now) (state_of state.now) t thread.now (Local step)) }
+    ensures room { IfSome result (λ step. MayGoOn thread.now.pc (Local step)) }
 {
     if thread.event_bit {
         return None;
     }
     let instr = *state.fixed.parts.code.instrs.get(thread.pc as usize)?;
-    if !own_rows::is_own(instr) {
+    if !local_rows::is_local(instr) {
         return None;
     }
-    own_rows::step(thread, &state.words, instr).ok()
+    local_rows::step(thread, &state.words, instr).ok()
 }
 
 /// Thread `t` takes its turn, whatever this is.
@@ -164,29 +164,29 @@ fn take_any(state: &mut State, outbox: &mut HeapCircularBuffer<Sent>, in_use: &m
     ensures rest { AreUnusedFrom in_use.new state.new.threads }
 {
     match decide(state, t) {
-        Turn::Idle => Did::Idle,
-        Turn::Paused => Did::Paused,
-        Turn::Trapped(kind) => {
+        SlotResult::Idle => Did::Idle,
+        SlotResult::Paused => Did::Paused,
+        SlotResult::Trapped(kind) => {
             let pos = place_of(state, t);
             state.threads[t as usize].mode = Mode::Trapped;
             Did::Trapped(kind, pos)
         }
-        Turn::Own(step) => {
-            own_rows::apply(&mut state.threads, &mut state.words, t, step);
+        SlotResult::Local(step) => {
+            local_rows::apply(&mut state.threads, &mut state.words, t, step);
             Did::Made(None)
         }
-        Turn::Pool(step) => {
+        SlotResult::Pool(step) => {
             pool_rows::apply(state, t, step);
             *in_use = threads::in_use(&state.threads);
             Did::Made(None)
         }
-        Turn::End(step) => Did::Made(end_rows::apply(state, outbox, t, step)),
-        Turn::Port(step) => Did::Made(port_rows::apply(state, t, step)),
-        Turn::Event(step) => {
+        SlotResult::End(step) => Did::Made(end_rows::apply(state, outbox, t, step)),
+        SlotResult::Port(step) => Did::Made(port_rows::apply(state, t, step)),
+        SlotResult::Event(step) => {
             event_rows::apply(state, t, step);
             Did::Made(None)
         }
-        Turn::Take(res) => {
+        SlotResult::Take(res) => {
             event_rows::take(state, t, res);
             Did::Made(None)
         }

@@ -17,11 +17,11 @@ use Rattle.xs_instr.specs.declared.state.Mode.TheVariants.{Unused, Waiting, Runn
 use Rattle.xs_instr.specs.declared.state.Res.{Res}
 use Rattle.xs_instr.specs.declared.state.Res.TheVariants.{Port as ResPort, Timer as ResTimer, End as ResEnd}
 use Rattle.xs_instr.specs.declared.state.Thread.{Thread}
-use Rattle.xs_instr.specs.Did.{Did, Made, Paused, Traps, Idle, told}
+use Rattle.xs_instr.specs.Did.{Did, Made, Paused, Traps, Idle, map_did}
 use Rattle.xs_instr.specs.Events.{latched}
 use Rattle.xs_instr.specs.declared.image.Home.{Home}
 use Rattle.xs_instr.specs.Resources.{Named, APort, ATimer, AnEnd, ASync, ALock}
-use Rattle.xs_instr.specs.Rows.{out_row, in_row, cond_row, data_row, free_row, get_row, wait_row, end_row, names, row, own_row, own_of, put_own}
+use Rattle.xs_instr.specs.Rows.{out_row, in_row, cond_row, data_row, free_row, get_row, wait_row, end_row, names, row, local_row, local_of, put_local}
 use Rattle.xs_instr.specs.Registers.{reg_get}
 use Rattle.xs_instr.specs.Slot.{fetched, event_or_row, instr_at, pick_where, takes_events, turn_of, turn_at, slot, trapped, trapped_at, last_clock}
 use Rattle.xs_instr.specs.Machine.{Machine, boot, came, home_of}
@@ -37,7 +37,7 @@ clock_after core Paused = core.clock
 clock_after core (Traps kind) = core.clock
 clock_after core Idle = core.clock
 
-told_clock : {A : Type 0} (core : CoreState) (put : A → CoreState) (did : Did A) → ((a : A) → (put a).clock ≡ core.clock) → clock_after core (told put did) ≡ core.clock
+told_clock : {A : Type 0} (core : CoreState) (put : A → CoreState) (did : Did A) → ((a : A) → (put a).clock ≡ core.clock) → clock_after core (map_did put did) ≡ core.clock
 told_clock core put (Made left made sent) h = h left
 told_clock core put Paused h = refl
 told_clock core put (Traps kind) h = refl
@@ -112,7 +112,7 @@ module _ (home : Home) (core : CoreState) (t : ℕ) (thread : Thread) where
   row_clock (Setv r k) = told_clock core _ _ (λ a. refl)
   row_clock (Eeu r) = told_clock core _ _ (λ a. refl)
   row_clock (Edu r) = told_clock core _ _ (λ a. refl)
-  row_clock i = told_clock core (put_own core t thread) (own_row (own_of core thread) i) (λ a. refl)
+  row_clock i = told_clock core (put_local core t thread) (local_row (local_of core thread) i) (λ a. refl)
 
   latched_clock : (r : Res) → (latched home core r).clock ≡ core.clock
   latched_clock (ResPort n) = refl

@@ -23,7 +23,7 @@ use Rattle.xs_instr.specs.declared.state.Res.TheVariants.{Port as ResPort, Timer
 use Rattle.xs_instr.specs.declared.state.Thread.{Thread}
 use Rattle.xs_instr.specs.declared.state.Timer.{Timer}
 use Rattle.xs_instr.specs.declared.state.Token.{Token}
-use Rattle.xs_instr.specs.Did.{Did, Made, Paused, Traps, Idle, told}
+use Rattle.xs_instr.specs.Did.{Did, Made, Paused, Traps, Idle, map_did}
 use Rattle.xs_instr.specs.declared.image.Home.{Home}
 use Rattle.xs_instr.specs.Resources.{Named, APort, ATimer, AnEnd, ASync, AThread, ALock, usable, where_taken, is_num, on_sync, on_port, on_end, on_thread}
 use Rattle.xs_instr.specs.Pool.{on_lock, lock_there, where_lock, sync_freed, sync_freed_by, some_tied, lock_freed, lock_freed_by, lock_held, lock_held_by, lock_given, lock_given_by, synced, synced_by, joined, joined_when, all_wait, prepared, prepared_by, is_waiting, thread_got, with_pc, with_reg}
@@ -35,7 +35,7 @@ use Rattle.xs_instr.specs.Timers.{clock_read, clock_latched, clock_by, timer_mee
 use Rattle.xs_instr.specs.Events.{there, on_evented, vector_row, enable_row, disable_row}
 use Rattle.xw_words.specs.Words.{div_s, rem_s, div_u, rem_u}
 use Rattle.xs_instr.specs.Memory.{word_at, address_at}
-use Rattle.xs_instr.specs.Rows.{Own, held, sets_where, passes_by, loads, stores, jumps_by, enters_where, enters_by, returns_where, returns_by, own_row, own_of, put_own, put_threads, put_ends, goes_with, out_row, in_row, cond_row, data_row, free_row, get_row, wait_row, end_row, names, row}
+use Rattle.xs_instr.specs.Rows.{Local, reg, sets_where, passes_by, loads, stores, jumps_by, enters_where, enters_by, returns_where, returns_by, local_row, local_of, put_local, put_threads, put_ends, goes_with, out_row, in_row, cond_row, data_row, free_row, get_row, wait_row, end_row, names, row}
 use Rattle.xs_instr.specs.Slot.{takes_events, pick_where, fetched, event_or_row, instr_at, turn_of, turn_at, is_ready, is_pause, is_there, could_step, could_step_at, is_ready_by_words}
 
 abbrev pub is_idle : {A : Type 0} → Did A → Bool
@@ -44,13 +44,13 @@ is_idle Paused = false
 is_idle (Made left made sent) = false
 is_idle (Traps kind) = false
 
-told_idle : {A : Type 0} (put : A → CoreState) (did : Did A) → is_idle did ≡ false → is_idle (told put did) ≡ false
+told_idle : {A : Type 0} (put : A → CoreState) (did : Did A) → is_idle did ≡ false → is_idle (map_did put did) ≡ false
 told_idle put (Made left made sent) h = refl
 told_idle put Paused h = refl
 told_idle put (Traps kind) h = refl
 told_idle put Idle h = h
 
-module _ (own : Own) where
+module _ (own : Local) where
   q_sets : (d : Reg) (o : Option ℕ) → is_idle (sets_where own d o) ≡ false
   q_sets d None = refl
   q_sets d (Some v) = refl
@@ -222,7 +222,7 @@ q_check gone (Other k) = refl
 q_check gone NotThere = refl
 
 module _ (home : Home) (core : CoreState) (t : ℕ) (thread : Thread) where
-  outs_idle : (ks : List Token) (x : Named) → is_idle (told (goes_with put_ends core t thread) (on_end core (outs home core.clock ks core.ends) x)) ≡ false
+  outs_idle : (ks : List Token) (x : Named) → is_idle (map_did (goes_with put_ends core t thread) (on_end core (outs home core.clock ks core.ends) x)) ≡ false
   outs_idle ks x =
       told_idle _ _ (q_end core (outs home core.clock ks core.ends) x (λ e end. q_outs (tokens_go home core.clock core.ends e end ks (peer_of home.pairs home.number e)) (nat_le (length ks) end.credits)))
 
@@ -266,28 +266,28 @@ module _ (home : Home) (core : CoreState) (t : ℕ) (thread : Thread) where
   end_idle None = refl
   end_idle (Some n) = refl
 
-  prepared_idle : (change : Thread → Thread) (x : Named) → is_idle (told (goes_with put_threads core t thread) (on_thread core (prepared change core.threads) x)) ≡ false
+  prepared_idle : (change : Thread → Thread) (x : Named) → is_idle (map_did (goes_with put_threads core t thread) (on_thread core (prepared change core.threads) x)) ≡ false
   prepared_idle change x = told_idle _ _ (q_thread core (prepared change core.threads) x (λ n y. q_prepared change core.threads n y (is_waiting y.mode)))
 
   pub row_idle : (i : Instr) → is_idle (row home core t thread i) ≡ false
-  row_idle (Divs d a b) = told_idle (put_own core t thread) (own_row (own_of core thread) (Divs d a b)) (q_sets (own_of core thread) d (div_s (held (own_of core thread) a) (held (own_of core thread) b)))
-  row_idle (Rems d a b) = told_idle (put_own core t thread) (own_row (own_of core thread) (Rems d a b)) (q_sets (own_of core thread) d (rem_s (held (own_of core thread) a) (held (own_of core thread) b)))
-  row_idle (Divu d a b) = told_idle (put_own core t thread) (own_row (own_of core thread) (Divu d a b)) (q_sets (own_of core thread) d (div_u (held (own_of core thread) a) (held (own_of core thread) b)))
-  row_idle (Remu d a b) = told_idle (put_own core t thread) (own_row (own_of core thread) (Remu d a b)) (q_sets (own_of core thread) d (rem_u (held (own_of core thread) a) (held (own_of core thread) b)))
-  row_idle (Ecallf a) = told_idle (put_own core t thread) (own_row (own_of core thread) (Ecallf a)) (q_passes (own_of core thread) (not (nat_eq (held (own_of core thread) a) 0)))
-  row_idle (Ecallt a) = told_idle (put_own core t thread) (own_row (own_of core thread) (Ecallt a)) (q_passes (own_of core thread) (nat_eq (held (own_of core thread) a) 0))
-  row_idle (Ldwdp d n) = told_idle (put_own core t thread) (own_row (own_of core thread) (Ldwdp d n)) (q_loads (own_of core thread) d (word_at (own_of core thread).words (address_at (own_of core thread).regs.dp n)))
-  row_idle (Stwdp s n) = told_idle (put_own core t thread) (own_row (own_of core thread) (Stwdp s n)) (q_stores (own_of core thread) (held (own_of core thread) s) (address_at (own_of core thread).regs.dp n) (word_at (own_of core thread).words (address_at (own_of core thread).regs.dp n)))
-  row_idle (Ldwsp d n) = told_idle (put_own core t thread) (own_row (own_of core thread) (Ldwsp d n)) (q_loads (own_of core thread) d (word_at (own_of core thread).words (address_at (own_of core thread).regs.sp n)))
-  row_idle (Stwsp s n) = told_idle (put_own core t thread) (own_row (own_of core thread) (Stwsp s n)) (q_stores (own_of core thread) (held (own_of core thread) s) (address_at (own_of core thread).regs.sp n) (word_at (own_of core thread).words (address_at (own_of core thread).regs.sp n)))
-  row_idle (Ldw d b i) = told_idle (put_own core t thread) (own_row (own_of core thread) (Ldw d b i)) (q_loads (own_of core thread) d (word_at (own_of core thread).words (address_at (held (own_of core thread) b) (held (own_of core thread) i))))
-  row_idle (Stw s b i) = told_idle (put_own core t thread) (own_row (own_of core thread) (Stw s b i)) (q_stores (own_of core thread) (held (own_of core thread) s) (address_at (held (own_of core thread) b) (held (own_of core thread) i)) (word_at (own_of core thread).words (address_at (held (own_of core thread) b) (held (own_of core thread) i))))
-  row_idle (Brft a k) = told_idle (put_own core t thread) (own_row (own_of core thread) (Brft a k)) (q_jumps (own_of core thread) k (not (nat_eq (held (own_of core thread) a) 0)))
-  row_idle (Brff a k) = told_idle (put_own core t thread) (own_row (own_of core thread) (Brff a k)) (q_jumps (own_of core thread) k (nat_eq (held (own_of core thread) a) 0))
-  row_idle (Brbt a k) = told_idle (put_own core t thread) (own_row (own_of core thread) (Brbt a k)) (q_jumps (own_of core thread) k (not (nat_eq (held (own_of core thread) a) 0)))
-  row_idle (Brbf a k) = told_idle (put_own core t thread) (own_row (own_of core thread) (Brbf a k)) (q_jumps (own_of core thread) k (nat_eq (held (own_of core thread) a) 0))
-  row_idle (Entsp n) = told_idle (put_own core t thread) (own_row (own_of core thread) (Entsp n)) (q_enters (own_of core thread) n (nat_eq n 0))
-  row_idle (Retsp n) = told_idle (put_own core t thread) (own_row (own_of core thread) (Retsp n)) (q_returns (own_of core thread) n (nat_eq n 0))
+  row_idle (Divs d a b) = told_idle (put_local core t thread) (local_row (local_of core thread) (Divs d a b)) (q_sets (local_of core thread) d (div_s (reg (local_of core thread) a) (reg (local_of core thread) b)))
+  row_idle (Rems d a b) = told_idle (put_local core t thread) (local_row (local_of core thread) (Rems d a b)) (q_sets (local_of core thread) d (rem_s (reg (local_of core thread) a) (reg (local_of core thread) b)))
+  row_idle (Divu d a b) = told_idle (put_local core t thread) (local_row (local_of core thread) (Divu d a b)) (q_sets (local_of core thread) d (div_u (reg (local_of core thread) a) (reg (local_of core thread) b)))
+  row_idle (Remu d a b) = told_idle (put_local core t thread) (local_row (local_of core thread) (Remu d a b)) (q_sets (local_of core thread) d (rem_u (reg (local_of core thread) a) (reg (local_of core thread) b)))
+  row_idle (Ecallf a) = told_idle (put_local core t thread) (local_row (local_of core thread) (Ecallf a)) (q_passes (local_of core thread) (not (nat_eq (reg (local_of core thread) a) 0)))
+  row_idle (Ecallt a) = told_idle (put_local core t thread) (local_row (local_of core thread) (Ecallt a)) (q_passes (local_of core thread) (nat_eq (reg (local_of core thread) a) 0))
+  row_idle (Ldwdp d n) = told_idle (put_local core t thread) (local_row (local_of core thread) (Ldwdp d n)) (q_loads (local_of core thread) d (word_at (local_of core thread).words (address_at (local_of core thread).regs.dp n)))
+  row_idle (Stwdp s n) = told_idle (put_local core t thread) (local_row (local_of core thread) (Stwdp s n)) (q_stores (local_of core thread) (reg (local_of core thread) s) (address_at (local_of core thread).regs.dp n) (word_at (local_of core thread).words (address_at (local_of core thread).regs.dp n)))
+  row_idle (Ldwsp d n) = told_idle (put_local core t thread) (local_row (local_of core thread) (Ldwsp d n)) (q_loads (local_of core thread) d (word_at (local_of core thread).words (address_at (local_of core thread).regs.sp n)))
+  row_idle (Stwsp s n) = told_idle (put_local core t thread) (local_row (local_of core thread) (Stwsp s n)) (q_stores (local_of core thread) (reg (local_of core thread) s) (address_at (local_of core thread).regs.sp n) (word_at (local_of core thread).words (address_at (local_of core thread).regs.sp n)))
+  row_idle (Ldw d b i) = told_idle (put_local core t thread) (local_row (local_of core thread) (Ldw d b i)) (q_loads (local_of core thread) d (word_at (local_of core thread).words (address_at (reg (local_of core thread) b) (reg (local_of core thread) i))))
+  row_idle (Stw s b i) = told_idle (put_local core t thread) (local_row (local_of core thread) (Stw s b i)) (q_stores (local_of core thread) (reg (local_of core thread) s) (address_at (reg (local_of core thread) b) (reg (local_of core thread) i)) (word_at (local_of core thread).words (address_at (reg (local_of core thread) b) (reg (local_of core thread) i))))
+  row_idle (Brft a k) = told_idle (put_local core t thread) (local_row (local_of core thread) (Brft a k)) (q_jumps (local_of core thread) k (not (nat_eq (reg (local_of core thread) a) 0)))
+  row_idle (Brff a k) = told_idle (put_local core t thread) (local_row (local_of core thread) (Brff a k)) (q_jumps (local_of core thread) k (nat_eq (reg (local_of core thread) a) 0))
+  row_idle (Brbt a k) = told_idle (put_local core t thread) (local_row (local_of core thread) (Brbt a k)) (q_jumps (local_of core thread) k (not (nat_eq (reg (local_of core thread) a) 0)))
+  row_idle (Brbf a k) = told_idle (put_local core t thread) (local_row (local_of core thread) (Brbf a k)) (q_jumps (local_of core thread) k (nat_eq (reg (local_of core thread) a) 0))
+  row_idle (Entsp n) = told_idle (put_local core t thread) (local_row (local_of core thread) (Entsp n)) (q_enters (local_of core thread) n (nat_eq n 0))
+  row_idle (Retsp n) = told_idle (put_local core t thread) (local_row (local_of core thread) (Retsp n)) (q_returns (local_of core thread) n (nat_eq n 0))
   row_idle (Getr d kind) = get_idle d kind
   row_idle (Freer r) = free_idle (names home thread r)
   row_idle (Getst d r) = told_idle _ _ (q_sync core (thread_got home.number core.threads) (names home thread r) (λ n. refl))

@@ -20,7 +20,7 @@ use Rattle.xs_instr.specs.declared.state.Res.TheVariants.{Port as ResPort, Timer
 use Rattle.xs_instr.specs.declared.state.Thread.{Thread}
 use Rattle.xs_instr.specs.declared.state.Timer.{Timer}
 use Rattle.xs_instr.specs.declared.state.Token.{Token}
-use Rattle.xs_instr.specs.Did.{Did, Made, Paused, Traps, Idle, told}
+use Rattle.xs_instr.specs.Did.{Did, Made, Paused, Traps, Idle, map_did}
 use Rattle.xs_instr.specs.declared.image.Home.{Home}
 use Rattle.xs_instr.specs.Resources.{Named, APort, ATimer, AnEnd, ASync, AThread, ALock, usable, where_taken, is_num, on_sync, on_port, on_end, on_thread}
 use Rattle.xs_instr.specs.Pool.{on_lock, lock_there, where_lock, sync_freed, sync_freed_by, some_tied, lock_freed, lock_freed_by, lock_held, lock_held_by, lock_given, lock_given_by, synced, synced_by, joined, joined_when, all_wait, prepared, prepared_by, is_waiting, thread_got, with_pc, with_reg}
@@ -32,7 +32,7 @@ use Rattle.xs_instr.specs.Timers.{clock_read, clock_latched, clock_by, timer_mee
 use Rattle.xs_instr.specs.Events.{there, on_evented, vector_row, enable_row, disable_row, latched}
 use Rattle.xw_words.specs.Words.{div_s, rem_s, div_u, rem_u}
 use Rattle.xs_instr.specs.Memory.{word_at, address_at}
-use Rattle.xs_instr.specs.Rows.{Own, held, sets_where, passes_by, loads, stores, jumps_by, enters_where, enters_by, returns_where, returns_by, own_row, own_of, put_own, put_threads, put_syncs, put_locks, put_ports, put_timers, put_ends, put_events, goes_with, gets_with, out_row, in_row, cond_row, data_row, free_row, get_row, wait_row, end_row, names, row}
+use Rattle.xs_instr.specs.Rows.{Local, reg, sets_where, passes_by, loads, stores, jumps_by, enters_where, enters_by, returns_where, returns_by, local_row, local_of, put_local, put_threads, put_syncs, put_locks, put_ports, put_timers, put_ends, put_events, goes_with, gets_with, out_row, in_row, cond_row, data_row, free_row, get_row, wait_row, end_row, names, row}
 use Rattle.xs_instr.specs.Slot.{takes_events, pick_where, fetched, event_or_row, instr_at, turn_of, turn_at, slot}
 use Rattle.xs_fabric.specs.Changes.{Changes, sent_of, ends_after}
 
@@ -40,13 +40,13 @@ abbrev pub Kept : Home → CoreState → Did CoreState → Type 0
 Kept home core did = Changes home core.clock core.ends (ends_after core did) (sent_of did)
 
 -- a part without the ends, from which nothing is sent
-told_kept : {A : Type 0} (home : Home) (core : CoreState) (put : A → CoreState) (did : Did A) → ((a : A) → (put a).ends ≡ core.ends) → sent_of did ≡ [] → Kept home core (told put did)
+told_kept : {A : Type 0} (home : Home) (core : CoreState) (put : A → CoreState) (did : Did A) → ((a : A) → (put a).ends ≡ core.ends) → sent_of did ≡ [] → Kept home core (map_did put did)
 told_kept home core put (Made left made sent) same h = inl (same left, h)
 told_kept home core put Paused same h = inl (refl, refl)
 told_kept home core put (Traps kind) same h = inl (refl, refl)
 told_kept home core put Idle same h = inl (refl, refl)
 
-module _ (own : Own) where
+module _ (own : Local) where
   q_sets : (d : Reg) (o : Option ℕ) → sent_of (sets_where own d o) ≡ []
   q_sets d None = refl
   q_sets d (Some v) = refl
@@ -83,23 +83,23 @@ module _ (own : Own) where
   q_returns n true = refl
   q_returns n false = q_returns_where (address_at own.regs.sp n) (word_at own.words (address_at own.regs.sp n))
 
-  q_own : (i : Instr) → sent_of (own_row own i) ≡ []
-  q_own (Divs d a b) = q_sets d (div_s (held own a) (held own b))
-  q_own (Rems d a b) = q_sets d (rem_s (held own a) (held own b))
-  q_own (Divu d a b) = q_sets d (div_u (held own a) (held own b))
-  q_own (Remu d a b) = q_sets d (rem_u (held own a) (held own b))
-  q_own (Ecallf a) = q_passes (not (nat_eq (held own a) 0))
-  q_own (Ecallt a) = q_passes (nat_eq (held own a) 0)
+  q_own : (i : Instr) → sent_of (local_row own i) ≡ []
+  q_own (Divs d a b) = q_sets d (div_s (reg own a) (reg own b))
+  q_own (Rems d a b) = q_sets d (rem_s (reg own a) (reg own b))
+  q_own (Divu d a b) = q_sets d (div_u (reg own a) (reg own b))
+  q_own (Remu d a b) = q_sets d (rem_u (reg own a) (reg own b))
+  q_own (Ecallf a) = q_passes (not (nat_eq (reg own a) 0))
+  q_own (Ecallt a) = q_passes (nat_eq (reg own a) 0)
   q_own (Ldwdp d n) = q_loads d (word_at own.words (address_at own.regs.dp n))
-  q_own (Stwdp s n) = q_stores (held own s) (address_at own.regs.dp n) (word_at own.words (address_at own.regs.dp n))
+  q_own (Stwdp s n) = q_stores (reg own s) (address_at own.regs.dp n) (word_at own.words (address_at own.regs.dp n))
   q_own (Ldwsp d n) = q_loads d (word_at own.words (address_at own.regs.sp n))
-  q_own (Stwsp s n) = q_stores (held own s) (address_at own.regs.sp n) (word_at own.words (address_at own.regs.sp n))
-  q_own (Ldw d b i) = q_loads d (word_at own.words (address_at (held own b) (held own i)))
-  q_own (Stw s b i) = q_stores (held own s) (address_at (held own b) (held own i)) (word_at own.words (address_at (held own b) (held own i)))
-  q_own (Brft a k) = q_jumps k (not (nat_eq (held own a) 0))
-  q_own (Brff a k) = q_jumps k (nat_eq (held own a) 0)
-  q_own (Brbt a k) = q_jumps k (not (nat_eq (held own a) 0))
-  q_own (Brbf a k) = q_jumps k (nat_eq (held own a) 0)
+  q_own (Stwsp s n) = q_stores (reg own s) (address_at own.regs.sp n) (word_at own.words (address_at own.regs.sp n))
+  q_own (Ldw d b i) = q_loads d (word_at own.words (address_at (reg own b) (reg own i)))
+  q_own (Stw s b i) = q_stores (reg own s) (address_at (reg own b) (reg own i)) (word_at own.words (address_at (reg own b) (reg own i)))
+  q_own (Brft a k) = q_jumps k (not (nat_eq (reg own a) 0))
+  q_own (Brff a k) = q_jumps k (nat_eq (reg own a) 0)
+  q_own (Brbt a k) = q_jumps k (not (nat_eq (reg own a) 0))
+  q_own (Brbf a k) = q_jumps k (nat_eq (reg own a) 0)
   q_own (Entsp n) = q_enters n (nat_eq n 0)
   q_own (Retsp n) = q_returns n (nat_eq n 0)
   q_own _ = refl
@@ -219,18 +219,18 @@ end_given : (end : ChanEnd) (ks : List Token) → nat_le (length ks) end.credits
 end_given end ks h = leb-true (length ks) end.credits h
 
 module _ (home : Home) (core : CoreState) (t : ℕ) (thread : Thread) where
-  own_kept : (i : Instr) → Kept home core (told (put_own core t thread) (own_row (own_of core thread) i))
-  own_kept i = told_kept home core (put_own core t thread) (own_row (own_of core thread) i) (λ a. refl) (q_own (own_of core thread) i)
+  own_kept : (i : Instr) → Kept home core (map_did (put_local core t thread) (local_row (local_of core thread) i))
+  own_kept i = told_kept home core (put_local core t thread) (local_row (local_of core thread) i) (λ a. refl) (q_own (local_of core thread) i)
 
-  outs_kept_by : (ks : List Token) (e : ℕ) (end : ChanEnd) (b : Bool) → slice_get core.ends e ≡ Some end → nat_le (length ks) end.credits ≡ b → Kept home core (told (goes_with put_ends core t thread) (outs_by (tokens_go home core.clock core.ends e end ks (peer_of home.pairs home.number e)) b))
+  outs_kept_by : (ks : List Token) (e : ℕ) (end : ChanEnd) (b : Bool) → slice_get core.ends e ≡ Some end → nat_le (length ks) end.credits ≡ b → Kept home core (map_did (goes_with put_ends core t thread) (outs_by (tokens_go home core.clock core.ends e end ks (peer_of home.pairs home.number e)) b))
   outs_kept_by ks e end true h g = inr (inl (record { e = e; end = end; ks = ks; here = h; enough = end_given end ks g; gone = refl }))
   outs_kept_by ks e end false h g = inl (refl, refl)
 
-  outs_kept_at : (ks : List Token) (e : ℕ) (o : Option ChanEnd) → slice_get core.ends e ≡ o → Kept home core (told (goes_with put_ends core t thread) (usable (outs home core.clock ks core.ends e) o))
+  outs_kept_at : (ks : List Token) (e : ℕ) (o : Option ChanEnd) → slice_get core.ends e ≡ o → Kept home core (map_did (goes_with put_ends core t thread) (usable (outs home core.clock ks core.ends e) o))
   outs_kept_at ks e None h = inl (refl, refl)
   outs_kept_at ks e (Some end) h = outs_kept_by ks e end (nat_le (length ks) end.credits) h refl
 
-  outs_kept : (ks : List Token) (x : Named) → Kept home core (told (goes_with put_ends core t thread) (on_end core (outs home core.clock ks core.ends) x))
+  outs_kept : (ks : List Token) (x : Named) → Kept home core (map_did (goes_with put_ends core t thread) (on_end core (outs home core.clock ks core.ends) x))
   outs_kept ks (AnEnd e) = outs_kept_at ks e (slice_get core.ends e) refl
   outs_kept ks _ = inl (refl, refl)
 
@@ -254,42 +254,42 @@ check_enough [] c h = cc
 check_enough (k ∷ ks) c h = omega arith
 
 module _ (home : Home) (core : CoreState) (t : ℕ) (thread : Thread) where
-  word_kept_by : (d : Reg) (e : ℕ) (end : ChanEnd) (w : Taken) → slice_get core.ends e ≡ Some end → take_word end.tokens ≡ w → Kept home core (told (gets_with put_ends core t thread d) (word_in home (tokens_taken home core.clock core.ends e end 4 (peer_of home.pairs home.number e)) w))
+  word_kept_by : (d : Reg) (e : ℕ) (end : ChanEnd) (w : Taken) → slice_get core.ends e ≡ Some end → take_word end.tokens ≡ w → Kept home core (map_did (gets_with put_ends core t thread d) (word_in home (tokens_taken home core.clock core.ends e end 4 (peer_of home.pairs home.number e)) w))
   word_kept_by d e end (Word v) h g = inr (inr (record { e = e; end = end; n = 4; here = h; enough = word_enough end.tokens v g; gone = refl }))
   word_kept_by d e end (Control c) h g = inl (refl, refl)
   word_kept_by d e end NotYet h g = inl (refl, refl)
 
-  word_kept_at : (d : Reg) (e : ℕ) (o : Option ChanEnd) → slice_get core.ends e ≡ o → Kept home core (told (gets_with put_ends core t thread d) (usable (ins_word home core.clock core.ends e) o))
+  word_kept_at : (d : Reg) (e : ℕ) (o : Option ChanEnd) → slice_get core.ends e ≡ o → Kept home core (map_did (gets_with put_ends core t thread d) (usable (ins_word home core.clock core.ends e) o))
   word_kept_at d e None h = inl (refl, refl)
   word_kept_at d e (Some end) h = word_kept_by d e end (take_word end.tokens) h refl
 
-  word_kept : (d : Reg) (x : Named) → Kept home core (told (gets_with put_ends core t thread d) (on_end core (ins_word home core.clock core.ends) x))
+  word_kept : (d : Reg) (x : Named) → Kept home core (map_did (gets_with put_ends core t thread d) (on_end core (ins_word home core.clock core.ends) x))
   word_kept d (AnEnd e) = word_kept_at d e (slice_get core.ends e) refl
   word_kept d _ = inl (refl, refl)
 
-  byte_kept_by : (d : Reg) (e : ℕ) (end : ChanEnd) (w : Taken) → slice_get core.ends e ≡ Some end → take_byte end.tokens ≡ w → Kept home core (told (gets_with put_ends core t thread d) (byte_in (tokens_taken home core.clock core.ends e end 1 (peer_of home.pairs home.number e)) w))
+  byte_kept_by : (d : Reg) (e : ℕ) (end : ChanEnd) (w : Taken) → slice_get core.ends e ≡ Some end → take_byte end.tokens ≡ w → Kept home core (map_did (gets_with put_ends core t thread d) (byte_in (tokens_taken home core.clock core.ends e end 1 (peer_of home.pairs home.number e)) w))
   byte_kept_by d e end (Word v) h g = inr (inr (record { e = e; end = end; n = 1; here = h; enough = byte_enough end.tokens v g; gone = refl }))
   byte_kept_by d e end (Control c) h g = inl (refl, refl)
   byte_kept_by d e end NotYet h g = inl (refl, refl)
 
-  byte_kept_at : (d : Reg) (e : ℕ) (o : Option ChanEnd) → slice_get core.ends e ≡ o → Kept home core (told (gets_with put_ends core t thread d) (usable (ins_byte home core.clock core.ends e) o))
+  byte_kept_at : (d : Reg) (e : ℕ) (o : Option ChanEnd) → slice_get core.ends e ≡ o → Kept home core (map_did (gets_with put_ends core t thread d) (usable (ins_byte home core.clock core.ends e) o))
   byte_kept_at d e None h = inl (refl, refl)
   byte_kept_at d e (Some end) h = byte_kept_by d e end (take_byte end.tokens) h refl
 
-  byte_kept : (d : Reg) (x : Named) → Kept home core (told (gets_with put_ends core t thread d) (on_end core (ins_byte home core.clock core.ends) x))
+  byte_kept : (d : Reg) (x : Named) → Kept home core (map_did (gets_with put_ends core t thread d) (on_end core (ins_byte home core.clock core.ends) x))
   byte_kept d (AnEnd e) = byte_kept_at d e (slice_get core.ends e) refl
   byte_kept d _ = inl (refl, refl)
 
-  check_kept_by : (c e : ℕ) (end : ChanEnd) (w : Checked) → slice_get core.ends e ≡ Some end → check end.tokens c ≡ w → Kept home core (told (goes_with put_ends core t thread) (check_in (tokens_taken home core.clock core.ends e end 1 (peer_of home.pairs home.number e)) w))
+  check_kept_by : (c e : ℕ) (end : ChanEnd) (w : Checked) → slice_get core.ends e ≡ Some end → check end.tokens c ≡ w → Kept home core (map_did (goes_with put_ends core t thread) (check_in (tokens_taken home core.clock core.ends e end 1 (peer_of home.pairs home.number e)) w))
   check_kept_by c e end Passed h g = inr (inr (record { e = e; end = end; n = 1; here = h; enough = check_enough end.tokens c g; gone = refl }))
   check_kept_by c e end (Other k) h g = inl (refl, refl)
   check_kept_by c e end NotThere h g = inl (refl, refl)
 
-  check_kept_at : (c e : ℕ) (o : Option ChanEnd) → slice_get core.ends e ≡ o → Kept home core (told (goes_with put_ends core t thread) (usable (ins_control home core.clock c core.ends e) o))
+  check_kept_at : (c e : ℕ) (o : Option ChanEnd) → slice_get core.ends e ≡ o → Kept home core (map_did (goes_with put_ends core t thread) (usable (ins_control home core.clock c core.ends e) o))
   check_kept_at c e None h = inl (refl, refl)
   check_kept_at c e (Some end) h = check_kept_by c e end (check end.tokens c) h refl
 
-  check_kept : (c : ℕ) (x : Named) → Kept home core (told (goes_with put_ends core t thread) (on_end core (ins_control home core.clock c core.ends) x))
+  check_kept : (c : ℕ) (x : Named) → Kept home core (map_did (goes_with put_ends core t thread) (on_end core (ins_control home core.clock c core.ends) x))
   check_kept c (AnEnd e) = check_kept_at c e (slice_get core.ends e) refl
   check_kept c _ = inl (refl, refl)
 
@@ -353,18 +353,18 @@ module _ (home : Home) (core : CoreState) (t : ℕ) (thread : Thread) where
   end_kept None = inl (refl, refl)
   end_kept (Some n) = inl (refl, refl)
 
-  sync_kept : {A : Type 0} (put : A → CoreState) (go : ℕ → Did A) (x : Named) → ((a : A) → (put a).ends ≡ core.ends) → ((n : ℕ) → sent_of (go n) ≡ []) → Kept home core (told put (on_sync core go x))
+  sync_kept : {A : Type 0} (put : A → CoreState) (go : ℕ → Did A) (x : Named) → ((a : A) → (put a).ends ≡ core.ends) → ((n : ℕ) → sent_of (go n) ≡ []) → Kept home core (map_did put (on_sync core go x))
   sync_kept put go x same h = told_kept home core put (on_sync core go x) same (q_sync core go x h)
 
-  prepared_kept : (change : Thread → Thread) (x : Named) → Kept home core (told (goes_with put_threads core t thread) (on_thread core (prepared change core.threads) x))
+  prepared_kept : (change : Thread → Thread) (x : Named) → Kept home core (map_did (goes_with put_threads core t thread) (on_thread core (prepared change core.threads) x))
   prepared_kept change x =
       told_kept home core (goes_with put_threads core t thread) _ (λ a. refl)
       (q_thread core (prepared change core.threads) x (λ n y. q_prepared change core.threads n y (is_waiting y.mode)))
 
-  port_kept : {A : Type 0} (put : A → CoreState) (go : ℕ → Port → Did A) (x : Named) → ((a : A) → (put a).ends ≡ core.ends) → ((n : ℕ) (p : Port) → sent_of (go n p) ≡ []) → Kept home core (told put (on_port core go x))
+  port_kept : {A : Type 0} (put : A → CoreState) (go : ℕ → Port → Did A) (x : Named) → ((a : A) → (put a).ends ≡ core.ends) → ((n : ℕ) (p : Port) → sent_of (go n p) ≡ []) → Kept home core (map_did put (on_port core go x))
   port_kept put go x same h = told_kept home core put (on_port core go x) same (q_port core go x h)
 
-  event_kept : {A : Type 0} (put : A → CoreState) (go : Res → Did A) (x : Named) → ((a : A) → (put a).ends ≡ core.ends) → ((r : Res) → sent_of (go r) ≡ []) → Kept home core (told put (on_evented core go x))
+  event_kept : {A : Type 0} (put : A → CoreState) (go : Res → Did A) (x : Named) → ((a : A) → (put a).ends ≡ core.ends) → ((r : Res) → sent_of (go r) ≡ []) → Kept home core (map_did put (on_evented core go x))
   event_kept put go x same h = told_kept home core put (on_evented core go x) same (q_evented core go x h)
 
   pub row_kept : (i : Instr) → Kept home core (row home core t thread i)

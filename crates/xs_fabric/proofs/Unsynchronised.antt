@@ -20,13 +20,13 @@ use Rattle.xs_instr.specs.declared.state.Res.TheVariants.{Port as ResPort, Timer
 use Rattle.xs_instr.specs.declared.state.Thread.{Thread}
 use Rattle.xs_instr.specs.declared.trace.EndWord.{EndWord}
 use Rattle.xs_instr.specs.declared.trace.EndWord.TheVariants.{Finished, Trapped as AllTrapped}
-use Rattle.xs_instr.specs.Did.{Did, Given, told}
+use Rattle.xs_instr.specs.Did.{Did, Given, map_did}
 use Rattle.xs_instr.specs.Events.{cleared, latched, vector_of}
 use Rattle.xs_instr.specs.Machine.{Machine, Event, boot, boot_core, boot_threads, runs, home_of, parts_in}
 use Rattle.xs_instr.specs.Pool.{first_free, is_unused, is_waiting, is_tied, threads_taken, started_by, all_started, joined_by, all_joined, all_wait, tied_to, tied_at, thread_got, thread_got_by, synced, synced_by, joined, joined_when, prepared, prepared_by, with_pc, with_reg, locks_taken, sync_got, lock_got}
 use Rattle.xs_instr.specs.Registers.{reg_get, reg_set}
 use Rattle.xs_instr.specs.Resources.{Named, APort, ATimer, AnEnd, ASync, ALock, is_num, on_thread}
-use Rattle.xs_instr.specs.Rows.{out_row, in_row, cond_row, data_row, free_row, get_row, wait_row, end_row, names, row, own_row, own_of, put_own, with_thread, put_threads, put_syncs, put_locks, put_ports, put_timers, put_ends, put_events, goes_with, gets_with, bit_by, bit_row}
+use Rattle.xs_instr.specs.Rows.{out_row, in_row, cond_row, data_row, free_row, get_row, wait_row, end_row, names, row, local_row, local_of, put_local, with_thread, put_threads, put_syncs, put_locks, put_ports, put_timers, put_ends, put_events, goes_with, gets_with, bit_by, bit_row}
 use Rattle.xs_instr.specs.Sight.{count_true, sight}
 use Rattle.xs_instr.specs.Slot.{fetched, event_or_row, instr_at, pick_where, takes_events, turn_of, turn_at, slot, trapped, trapped_at}
 use Rattle.xs_instr.specs.Valid.{Valid}
@@ -140,10 +140,10 @@ Keeps core did = AllMade (λ left. RootsAreFew core → RootsAreFew left) did
 same_few : (core left : CoreState) → left.roots ≡ core.roots → unsynchronised left.threads ≡ unsynchronised core.threads → RootsAreFew core → RootsAreFew left
 same_few core left roots same few = let n = ap count_true same in omega (arith, roots, n, few)
 
-told_keeps_where : {A : Type 0} (P : A → Type 0) (core : CoreState) (put : A → CoreState) (did : Did A) → AllMade P did → ((a : A) → P a → RootsAreFew core → RootsAreFew (put a)) → Keeps core (told put did)
+told_keeps_where : {A : Type 0} (P : A → Type 0) (core : CoreState) (put : A → CoreState) (did : Did A) → AllMade P did → ((a : A) → P a → RootsAreFew core → RootsAreFew (put a)) → Keeps core (map_did put did)
 told_keeps_where P core put did is h = told_where P (λ left. RootsAreFew core → RootsAreFew left) put did is h
 
-told_keeps : {A : Type 0} (core : CoreState) (put : A → CoreState) (did : Did A) → ((a : A) → RootsAreFew core → RootsAreFew (put a)) → Keeps core (told put did)
+told_keeps : {A : Type 0} (core : CoreState) (put : A → CoreState) (did : Did A) → ((a : A) → RootsAreFew core → RootsAreFew (put a)) → Keeps core (map_did put did)
 told_keeps core put did h = told_all (λ left. RootsAreFew core → RootsAreFew left) put did h
 
 module _ (threads : List Thread) where
@@ -239,7 +239,7 @@ module _ (home : Home) (core : CoreState) (t : ℕ) (thread : Thread) (there : s
   bit_keeps : (bit : Bool) → Keeps core (bit_row core t thread bit)
   bit_keeps bit = with_few core (record thread { pc = thread.pc + 1; event_bit = bit }) refl refl refl
 
-  prepared_keeps : (change : Thread → Thread) (x : Named) → ((y : Thread) → is_unsynchronised (change y) ≡ is_unsynchronised y) → Keeps core (told (goes_with put_threads core t thread) (on_thread core (prepared change core.threads) x))
+  prepared_keeps : (change : Thread → Thread) (x : Named) → ((y : Thread) → is_unsynchronised (change y) ≡ is_unsynchronised y) → Keeps core (map_did (goes_with put_threads core t thread) (on_thread core (prepared change core.threads) x))
   prepared_keeps change x kept =
       told_keeps_where (IsSame core.threads) core _ _
       (made_thread (IsSame core.threads) core (prepared change core.threads) x (λ n y found. prepared_same core.threads change kept n y (is_waiting y.mode) found))
@@ -282,7 +282,7 @@ module _ (home : Home) (core : CoreState) (t : ℕ) (thread : Thread) (there : s
   row_keeps (Setv r k) = told_keeps core _ _ (λ a. goes_few put_events a refl refl)
   row_keeps (Eeu r) = told_keeps core _ _ (λ a. goes_few put_events a refl refl)
   row_keeps (Edu r) = told_keeps core _ _ (λ a. goes_few put_events a refl refl)
-  row_keeps i = told_keeps core (put_own core t thread) (own_row (own_of core thread) i) (λ own. with_few core (record thread { pc = own.pc; regs = own.regs }) refl refl refl)
+  row_keeps i = told_keeps core (put_local core t thread) (local_row (local_of core thread) i) (λ own. with_few core (record thread { pc = own.pc; regs = own.regs }) refl refl refl)
 
   latched_few : (r : Res) (x : Thread) → is_unsynchronised x ≡ is_unsynchronised thread → RootsAreFew core → RootsAreFew (with_thread (latched home core r) t x)
   latched_few (ResPort n) x kept = with_few (latched home core (ResPort n)) x refl refl kept

@@ -9,7 +9,7 @@ use Rattle.xs_instr.specs.declared.state.Thread.{Thread}
 use Rattle.xs_instr.specs.Did.{makes}
 use Rattle.xs_instr.specs.Lines.{Line}
 use Rattle.xs_instr.specs.Memory.{word_at}
-use Rattle.xs_instr.specs.Rows.{Own, put_own}
+use Rattle.xs_instr.specs.Rows.{Local, put_local}
 use Rattle.xs_instr.specs.Slot.{slot}
 
 -- the lines stand in the code from an index on
@@ -36,9 +36,9 @@ pub record Kept (relied : ℕ → Bool) (t : ℕ) (a b : CoreState) : Type 0 whe
 pub record OwnStep (home : Home) (leaves : ℕ → Type 0) (t : ℕ) (a b : CoreState) : Type 0 where
   pub thread : Thread
   pub here : slice_get a.threads t ≡ Some thread
-  pub after : Own
+  pub after : Local
   pub made : slot home a t ≡ makes b
-  pub left : b ≡ put_own a t thread after
+  pub left : b ≡ put_local a t thread after
   pub words : (w : ℕ) → leaves w → slice_get after.words w ≡ slice_get a.words w
 
 -- at most n own steps of thread t, whatever happens between them, lead to where Q holds

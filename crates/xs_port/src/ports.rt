@@ -301,7 +301,7 @@ fn moved_at(port: Port, now: u16) -> Port
 }
 
 // The port as it starts.
-fn fresh(decl: PortDecl) -> Port
+fn booted_port(decl: PortDecl) -> Port
     ensures { result ≡ boot_port decl }
 {
     Port {
@@ -321,7 +321,7 @@ fn booted(alloc: Global, decls: &[PortDecl]) -> Result<List<Port>, Memory>
 {
     let mut ports = List::new(alloc);
     for decl in decls {
-        ports.push(fresh(*decl))?;
+        ports.push(booted_port(*decl))?;
     }
     Ok(ports)
 }

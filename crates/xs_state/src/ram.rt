@@ -44,7 +44,7 @@ impl Ram {
         if address % BYTES_IN_WORD != 0 {
             return None;
         }
-        self.words.get(place(address)).copied()
+        self.words.get(word_index(address)).copied()
     }
 
     /// Puts a word at an address, and says whether one stands there: `false` exactly where the
@@ -54,15 +54,15 @@ impl Ram {
         ensures written { OnTrue result (self.new ≡ word_put self.old address v) }
         ensures refused { OnFalse result (self.new ≡ self.old) }
     {
-        if address % BYTES_IN_WORD != 0 || place(address) >= self.words.len() {
+        if address % BYTES_IN_WORD != 0 || word_index(address) >= self.words.len() {
             return false;
         }
-        self.words.set(place(address), v);
+        self.words.set(word_index(address), v);
         true
     }
 }
 
-fn place(address: u32) -> usize
+fn word_index(address: u32) -> usize
     ensures { result ≡ address / 4 }
 {
     (address / BYTES_IN_WORD) as usize

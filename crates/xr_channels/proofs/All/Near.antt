@@ -13,7 +13,7 @@ use Rattle.xs_instr.specs.declared.state.Thread.{Thread}
 use Rattle.xs_instr.specs.declared.state.Token.{Token}
 use Rattle.xs_instr.specs.declared.trace.Record.TheVariants.{Com}
 use Rattle.xs_instr.specs.declared.trace.Trap.TheVariants.{Mismatch}
-use Rattle.xs_instr.specs.Did.{Did, Made, Paused, Traps, told}
+use Rattle.xs_instr.specs.Did.{Did, Made, Paused, Traps, map_did}
 use Rattle.xs_instr.specs.Ends.{Peer, peer_of, Gone, outs, goes_by, tokens_go, tokens_taken, tokens_to, credits_to, all_arrive, word_tokens, ins_word, ins_control, take_word, NotYet, given_ends}
 use Rattle.xs_instr.specs.Machine.{link_of, on_links, no_links}
 use Rattle.xs_instr.specs.Rows.{goes_with, gets_with, put_ends}
@@ -145,7 +145,7 @@ module _ (near_end : NearEnd) (t : ℕ) (thread : Thread) where
     sent_left = goes_with put_ends core t thread sent_gone.ends
 
     abbrev pub sent_did : Did CoreState
-    sent_did = told (goes_with put_ends core t thread) (outs home core.clock ks core.ends e end)
+    sent_did = map_did (goes_with put_ends core t thread) (outs home core.clock ks core.ends e end)
 
     -- there are too few credits; or the row goes on
     pub data NearSend (boxes' : List Inboxes) (s : Spot) : Type 0 where
@@ -260,7 +260,7 @@ module _ (near_end : NearEnd) (t : ℕ) (thread : Thread) where
   in_left d v = gets_with put_ends core t thread d (given_ends (taken_gone 4) v)
 
   abbrev pub in_did : Reg → Did CoreState
-  in_did d = told (gets_with put_ends core t thread d) (ins_word home core.clock core.ends e end)
+  in_did d = map_did (gets_with put_ends core t thread d) (ins_word home core.clock core.ends e end)
 
   -- too few tokens are there; or the word of the parcel that stood first, which is recorded; or another parcel stood first
   pub data NearInput (d : Reg) (given : ℕ → Parcel) (wanted : Parcel → Bool) (boxes' : List Parcel → List Inboxes) (s : Spot) : Type 0 where
@@ -291,7 +291,7 @@ module _ (near_end : NearEnd) (t : ℕ) (thread : Thread) where
   check_left = goes_with put_ends core t thread (taken_gone 1).ends
 
   abbrev pub check_did : ℕ → Did CoreState
-  check_did n = told (goes_with put_ends core t thread) (ins_control home core.clock n core.ends e end)
+  check_did n = map_did (goes_with put_ends core t thread) (ins_control home core.clock n core.ends e end)
 
   -- no token is there; or the awaited parcel stood first; or another one did
   pub data NearCheck (n : ℕ) (given : Parcel) (wanted : Parcel → Bool) (boxes' : List Parcel → List Inboxes) (s : Spot) : Type 0 where

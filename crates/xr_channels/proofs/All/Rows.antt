@@ -10,7 +10,7 @@ use Rattle.xs_instr.specs.declared.state.Thread.{Thread}
 use Rattle.xs_instr.specs.declared.state.Token.{Token}
 use Rattle.xs_instr.specs.declared.trace.Record.TheVariants.{Com}
 use Rattle.xs_instr.specs.declared.trace.Trap.TheVariants.{Mismatch}
-use Rattle.xs_instr.specs.Did.{Did, Made, Paused, Traps, told}
+use Rattle.xs_instr.specs.Did.{Did, Made, Paused, Traps, map_did}
 use Rattle.xs_instr.specs.Ends.{Peer, peer_of, Gone, outs, outs_by, tokens_go, tokens_taken, word_tokens, ins_word, word_in, ins_control, check_in, check, Checked, Passed, Other, NotThere, Taken, Word, Control, NotYet, take_word, given_ends}
 use Rattle.xs_instr.specs.Machine.{link_of, on_links}
 use Rattle.xs_instr.specs.Rows.{goes_with, gets_with, put_ends}
@@ -95,12 +95,12 @@ module _ (pairs : List Pair) (wired : IsWired pairs) (cores : List CoreState) (l
         ks gone refl refl gone.sent refl)
 
     -- it pauses where there are too few credits, and else goes on
-    pub row_pauses : nat_le (length ks) end.credits ≡ false → told (goes_with put_ends core t thread) (outs home core.clock ks core.ends e end) ≡ Paused
-    row_pauses x = ap (λ b. told (goes_with put_ends core t thread) (outs_by gone b)) x
+    pub row_pauses : nat_le (length ks) end.credits ≡ false → map_did (goes_with put_ends core t thread) (outs home core.clock ks core.ends e end) ≡ Paused
+    row_pauses x = ap (λ b. map_did (goes_with put_ends core t thread) (outs_by gone b)) x
 
     -- with enough of them
-    pub row_makes : nat_le (length ks) end.credits ≡ true → told (goes_with put_ends core t thread) (outs home core.clock ks core.ends e end) ≡ Made left None gone.sent
-    row_makes x = ap (λ b. told (goes_with put_ends core t thread) (outs_by gone b)) x
+    pub row_makes : nat_le (length ks) end.credits ≡ true → map_did (goes_with put_ends core t thread) (outs home core.clock ks core.ends e end) ≡ Made left None gone.sent
+    row_makes x = ap (λ b. map_did (goes_with put_ends core t thread) (outs_by gone b)) x
 
     -- the channel afterwards
     abbrev pub Leaves : List Inboxes → Spot → List Parcel → Type 0
@@ -257,10 +257,10 @@ module _ (pairs : List Pair) (wired : IsWired pairs) (cores : List CoreState) (l
 
   -- what IN and CHKCT do
   abbrev pub in_did : Reg → Did CoreState
-  in_did d = told (gets_with put_ends core t thread d) (ins_word home core.clock core.ends e end)
+  in_did d = map_did (gets_with put_ends core t thread d) (ins_word home core.clock core.ends e end)
 
   abbrev pub check_did : ℕ → Did CoreState
-  check_did n = told (goes_with put_ends core t thread) (ins_control home core.clock n core.ends e end)
+  check_did n = map_did (goes_with put_ends core t thread) (ins_control home core.clock n core.ends e end)
 
   -- the own inbox without its first parcel, and an answer put at the other side
   abbrev pub answered : List Parcel → List Inboxes
@@ -273,8 +273,8 @@ module _ (pairs : List Pair) (wired : IsWired pairs) (cores : List CoreState) (l
     in_traps : (x : Parcel) (ps : List Parcel) → in_did d ≡ Traps Mismatch → parcels boxes k side ≡ x ∷ ps → wanted x ≡ false → InResult d given wanted Next
 
   -- by what IN finds
-  in_by : (d : Reg) (w : Taken) → take_word here.buffer ≡ w → in_did d ≡ told (gets_with put_ends core t thread d) (word_in home (taken_at 4) w)
-  in_by d w x = ap (λ b. told (gets_with put_ends core t thread d) (word_in home (taken_at 4) (take_word b))) (sym buffer_is) ∙ ap (λ z. told (gets_with put_ends core t thread d) (word_in home (taken_at 4) z)) x
+  in_by : (d : Reg) (w : Taken) → take_word here.buffer ≡ w → in_did d ≡ map_did (gets_with put_ends core t thread d) (word_in home (taken_at 4) w)
+  in_by d w x = ap (λ b. map_did (gets_with put_ends core t thread d) (word_in home (taken_at 4) (take_word b))) (sym buffer_is) ∙ ap (λ z. map_did (gets_with put_ends core t thread d) (word_in home (taken_at 4) z)) x
 
   -- the tokens behind a word
   cut_word : (v : ℕ) (ts : List Token) → here.buffer ≡ word_tokens v ++ ts → drop 4 here.buffer ≡ ts
@@ -330,8 +330,8 @@ module _ (pairs : List Pair) (wired : IsWired pairs) (cores : List CoreState) (l
     check_traps : (x : Parcel) (ps : List Parcel) → check_did n ≡ Traps Mismatch → parcels boxes k side ≡ x ∷ ps → wanted x ≡ false → CheckResult n given wanted Next
 
   -- by what CHKCT finds
-  check_by : (n : ℕ) (w : Checked) → check here.buffer n ≡ w → check_did n ≡ told (goes_with put_ends core t thread) (check_in (taken_at 1) w)
-  check_by n w x = ap (λ b. told (goes_with put_ends core t thread) (check_in (taken_at 1) (check b n))) (sym buffer_is) ∙ ap (λ z. told (goes_with put_ends core t thread) (check_in (taken_at 1) z)) x
+  check_by : (n : ℕ) (w : Checked) → check here.buffer n ≡ w → check_did n ≡ map_did (goes_with put_ends core t thread) (check_in (taken_at 1) w)
+  check_by n w x = ap (λ b. map_did (goes_with put_ends core t thread) (check_in (taken_at 1) (check b n))) (sym buffer_is) ∙ ap (λ z. map_did (goes_with put_ends core t thread) (check_in (taken_at 1) z)) x
 
   -- CHKCT ACK: the answer is taken
   pub chkct_ack : (z : Question) (i : Bool) → g.spots k side ≡ spot (awaits_ack z) i → CheckResult 3 taken is_taken (λ ps. Takes 1 check_left (boxed boxes k side ps) (spot between i))

@@ -11,7 +11,7 @@ use Rattle.xs_instr.specs.declared.state.Regs.{Regs}
 use Rattle.xs_instr.specs.declared.state.Token.{Token}
 use Rattle.xs_instr.specs.declared.trace.Record.TheVariants.{Fault}
 use Rattle.xs_instr.specs.declared.trace.Trap.TheVariants.{Mismatch}
-use Rattle.xs_instr.specs.Did.{told}
+use Rattle.xs_instr.specs.Did.{map_did}
 use Rattle.xs_instr.specs.Ends.{control_token, ins_control, ins_word, outs, word_tokens}
 use Rattle.xs_instr.specs.Registers.{reg_set}
 use Rattle.xs_instr.specs.Rows.{gets_with, goes_with, put_ends}
@@ -60,19 +60,19 @@ module _ (g : Setting) (r : Runner) (c : ℕ) (side : Side) (pos : Pos) (P : ℕ
   -- where tokens are to be sent
   pub sends_slot : (tokens : List Token) (acts : List Act) → TakesSteps g r c side pos (sends tokens ∷ acts) P pc regs → (a : CoreState) (end : ChanEnd) →
       slice_get a.threads r.thread ≡ Some (running r.tie pc regs) → slice_get a.ends (end_place g r c side) ≡ Some end →
-      slot (home g r) a r.thread ≡ told (goes_with put_ends a r.thread (running r.tie pc regs)) (outs (home g r) a.clock tokens a.ends (end_place g r c side) end)
+      slot (home g r) a r.thread ≡ map_did (goes_with put_ends a r.thread (running r.tie pc regs)) (outs (home g r) a.clock tokens a.ends (end_place g r c side) end)
   sends_slot tokens acts steps a end here there = steps.0.by a end here there
 
   -- where a word is to come to a register
   pub word_slot : (to : Reg) (acts : List Act) → TakesSteps g r c side pos (takes_word to ∷ acts) P pc regs → (a : CoreState) (end : ChanEnd) →
       slice_get a.threads r.thread ≡ Some (running r.tie pc regs) → slice_get a.ends (end_place g r c side) ≡ Some end →
-      slot (home g r) a r.thread ≡ told (gets_with put_ends a r.thread (running r.tie pc regs) to) (ins_word (home g r) a.clock a.ends (end_place g r c side) end)
+      slot (home g r) a r.thread ≡ map_did (gets_with put_ends a r.thread (running r.tie pc regs) to) (ins_word (home g r) a.clock a.ends (end_place g r c side) end)
   word_slot to acts steps a end here there = steps.0.by a end here there
 
   -- where a control token is to come
   pub takes_slot : (control : ℕ) (acts : List Act) → TakesSteps g r c side pos (takes control ∷ acts) P pc regs → (a : CoreState) (end : ChanEnd) →
       slice_get a.threads r.thread ≡ Some (running r.tie pc regs) → slice_get a.ends (end_place g r c side) ≡ Some end →
-      slot (home g r) a r.thread ≡ told (goes_with put_ends a r.thread (running r.tie pc regs)) (ins_control (home g r) a.clock control a.ends (end_place g r c side) end)
+      slot (home g r) a r.thread ≡ map_did (goes_with put_ends a r.thread (running r.tie pc regs)) (ins_control (home g r) a.clock control a.ends (end_place g r c side) end)
   takes_slot control acts steps a end here there = steps.0.by a end here there
 
   -- where it traps, it does so at the place of the transfer

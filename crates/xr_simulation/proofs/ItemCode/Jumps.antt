@@ -6,7 +6,7 @@ use Rattle.xs_instr.specs.declared.instr.Instr.TheVariants.{Brfu, Brbu}
 use Rattle.xs_instr.specs.declared.state.CoreState.{CoreState}
 use Rattle.xs_instr.specs.declared.state.Regs.{Regs}
 use Rattle.xs_instr.specs.Did.{makes}
-use Rattle.xs_instr.specs.Rows.{put_own}
+use Rattle.xs_instr.specs.Rows.{put_local}
 use Rattle.xs_instr.specs.Slot.{slot}
 use Rattle.xc_kernel.specs.Plain as kernel
 use Rattle.xc_meaning.specs.Settings.Flow.{items_from_mark}
@@ -29,7 +29,7 @@ use Rattle.xr_simulation.proofs.ItemCode.BlockEnds.{exits_lead}
 module _ (g : Setting) (r : Runner) where
   -- the runner's thread at another index
   abbrev moved_to : CoreState → ℕ → ℕ → Regs → CoreState
-  moved_to a pc p regs = put_own a r.thread (running r.tie pc regs) (record { pc = p; regs = regs; words = a.words })
+  moved_to a pc p regs = put_local a r.thread (running r.tie pc regs) (record { pc = p; regs = regs; words = a.words })
 
   -- a jump leads there
   jump_made : (y : ThreadView) (pc p : ℕ) (regs : Regs) → IsAt g r y pc regs →

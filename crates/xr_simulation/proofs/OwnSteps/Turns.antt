@@ -8,7 +8,7 @@ use Rattle.xs_instr.specs.declared.state.CoreState.{CoreState}
 use Rattle.xs_instr.specs.declared.state.Regs.{Regs}
 use Rattle.xs_instr.specs.Did.{makes}
 use Rattle.xs_instr.specs.OwnSteps.{temporary}
-use Rattle.xs_instr.specs.Rows.{put_own, row}
+use Rattle.xs_instr.specs.Rows.{put_local, row}
 use Rattle.xs_instr.specs.Slot.{slot, turn_at, runs_on, event_or_row, pick_where, instr_at, is_waiteu}
 use Rattle.xc_kernel.specs.Eval.{Store, words_of}
 use Rattle.xc_kernel.specs.Things.{change}
@@ -41,7 +41,7 @@ module _ (g : Setting) (r : Runner) where
   pub record MakesOwn (y : ThreadView) (pc : ℕ) (regs : Regs) (words : List ℕ) : Type 0 where
     pub index : ℕ
     pub here : IsAt g r y index regs
-    pub made : slot (home g r) y.core r.thread ≡ makes (put_own y.core r.thread (running r.tie index regs) (record { pc = pc; regs = regs; words = words }))
+    pub made : slot (home g r) y.core r.thread ≡ makes (put_local y.core r.thread (running r.tie index regs) (record { pc = pc; regs = regs; words = words }))
     pub others : (w : ℕ) → (MayChange g r w → ⊥) → slice_get words w ≡ slice_get y.core.words w
     pub size : length words ≡ length y.core.words
 
@@ -57,7 +57,7 @@ module _ (g : Setting) (r : Runner) where
   own_goes j y pc regs words made bases no_hand item rest items store has acted same holds room unwatched jumps stands fits fewer =
       let th = running r.tie made.index regs in
       let th' = running r.tie pc regs in
-      let left = put_own y.core r.thread th (record { pc = pc; regs = regs; words = words }) in
+      let left = put_local y.core r.thread th (record { pc = pc; regs = regs; words = words }) in
       let stand = stands left (λ part on. part_same y.core left refl refl refl part) in
       let x : World = record (with_items y.world r.branch has.branch items) { store = store } in
       record {

@@ -7,7 +7,7 @@ use Rattle.xs_instr.specs.declared.state.CoreState.{CoreState}
 use Rattle.xs_instr.specs.declared.state.Token.{Token}
 use Rattle.xs_instr.specs.declared.trace.Record.{Record}
 use Rattle.xs_instr.specs.declared.trace.Trap.{Trap}
-use Rattle.xs_instr.specs.Did.{Did, Given, Idle, Made, Paused, Traps, is_step, told}
+use Rattle.xs_instr.specs.Did.{Did, Given, Idle, Made, Paused, Traps, is_step, map_did}
 use Rattle.xs_instr.specs.Ends.{Control, Gone, NotYet, Taken, Word, check, check_by, check_in, first_control, ins_control, ins_word, outs, outs_by, take_word, word_in, word_unless}
 use Rattle.xs_instr.specs.Machine.{Machine, home_of, step_at, stepped}
 use Rattle.xs_instr.specs.Slot.{slot}
@@ -24,7 +24,7 @@ no_step_left h m c t a Paused e = refl
 no_step_left h m c t a Idle e = refl
 
 -- the same turn, told of a larger part
-told_is_step : {A B : Type 0} (put : A → B) (did : Did A) → is_step (told put did) ≡ is_step did
+told_is_step : {A B : Type 0} (put : A → B) (did : Did A) → is_step (map_did put did) ≡ is_step did
 told_is_step put (Made left made sent) = refl
 told_is_step put (Traps kind) = refl
 told_is_step put Paused = refl
@@ -89,22 +89,22 @@ module _ {may_rest : (core thread : ℕ) → Bool} {moment : Moment may_rest} {h
   not_trapped kind h = let both : true ≡ false = sym (ap is_step h) ∙ no_step in cc
 
   -- and what it tells of is no step
-  part_no_step : {A : Type 0} (put : A → CoreState) (did : Did A) → slot (home g r) a r.thread ≡ told put did → is_step did ≡ false
+  part_no_step : {A : Type 0} (put : A → CoreState) (did : Did A) → slot (home g r) a r.thread ≡ map_did put did → is_step did ≡ false
   part_no_step put did h = sym (told_is_step put did) ∙ sym (ap is_step h) ∙ no_step
 
   -- where it sends tokens it lacks credits
   pub lacks_credits : (put : List ChanEnd → CoreState) (ks : List Token) (e : ℕ) (end : ChanEnd) →
-      slot (home g r) a r.thread ≡ told put (outs (home g r) a.clock ks a.ends e end) → nat_le (length ks) end.credits ≡ false
+      slot (home g r) a r.thread ≡ map_did put (outs (home g r) a.clock ks a.ends e end) → nat_le (length ks) end.credits ≡ false
   lacks_credits put ks e end h = sym (outs_is_step _ (nat_le (length ks) end.credits)) ∙ part_no_step put (outs (home g r) a.clock ks a.ends e end) h
 
   -- where it takes a control token none is there
   pub lacks_tokens : (put : List ChanEnd → CoreState) (n e : ℕ) (end : ChanEnd) →
-      slot (home g r) a r.thread ≡ told put (ins_control (home g r) a.clock n a.ends e end) → end.tokens ≡ []
+      slot (home g r) a r.thread ≡ map_did put (ins_control (home g r) a.clock n a.ends e end) → end.tokens ≡ []
   lacks_tokens put n e end h = check_waits _ end.tokens n (part_no_step put (ins_control (home g r) a.clock n a.ends e end) h)
 
   -- and where it takes a word no four are
   pub lacks_word : (put : Given (List ChanEnd) → CoreState) (e : ℕ) (end : ChanEnd) →
-      slot (home g r) a r.thread ≡ told put (ins_word (home g r) a.clock a.ends e end) → (take_word end.tokens ≡ NotYet) × (length end.tokens < 4)
+      slot (home g r) a r.thread ≡ map_did put (ins_word (home g r) a.clock a.ends e end) → (take_word end.tokens ≡ NotYet) × (length end.tokens < 4)
   lacks_word put e end h =
       let waits = word_waits (home g r) _ (take_word end.tokens) (part_no_step put (ins_word (home g r) a.clock a.ends e end) h) in
       (waits, fewer_than_four end.tokens waits)

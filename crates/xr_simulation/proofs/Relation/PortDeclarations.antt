@@ -19,12 +19,12 @@ use Rattle.xs_instr.specs.declared.state.Res.{Res}
 use Rattle.xs_instr.specs.declared.state.Res.TheVariants.{Port as ResPort, Timer as ResTimer, End as ResEnd}
 use Rattle.xs_instr.specs.declared.state.Thread.{Thread}
 use Rattle.xs_instr.specs.declared.trace.Record.{Record}
-use Rattle.xs_instr.specs.Did.{Did, Given, Made, Paused, Traps, Idle, makes, told}
+use Rattle.xs_instr.specs.Did.{Did, Given, Made, Paused, Traps, Idle, makes, map_did}
 use Rattle.xs_instr.specs.Events.{latched}
 use Rattle.xs_instr.specs.Ports.{counter, can_receive, can_send, drives, drives_by, drives_on, is_port_cond, meets, moved_at, port_cond_by, port_cond_set, port_data_set, port_latched, port_latched_at, port_stamp, port_time_set, reads, reads_latched, reads_now, reads_on, time_meets}
 use Rattle.xs_instr.specs.Registers.{reg_get}
 use Rattle.xs_instr.specs.Resources.{Named, APort, ATimer, AnEnd, ASync, ALock, on_port, usable}
-use Rattle.xs_instr.specs.Rows.{gets_with, goes_with, own_row, own_of, put_own, put_ports, out_row, in_row, cond_row, data_row, free_row, get_row, wait_row, end_row, names, row}
+use Rattle.xs_instr.specs.Rows.{gets_with, goes_with, local_row, local_of, put_local, put_ports, out_row, in_row, cond_row, data_row, free_row, get_row, wait_row, end_row, names, row}
 use Rattle.xs_instr.specs.Slot.{fetched, event_or_row, instr_at, pick_where, takes_events, turn_of, turn_at, slot}
 
 -- how ports are declared
@@ -101,7 +101,7 @@ declared_after core (Traps kind) = declared_in core.ports
 declared_after core Idle = declared_in core.ports
 
 -- a part is changed that isn't the ports
-told_ports : {A : Type 0} (core : CoreState) (put : A → CoreState) (did : Did A) → ((a : A) → declared_in (put a).ports ≡ declared_in core.ports) → declared_after core (told put did) ≡ declared_in core.ports
+told_ports : {A : Type 0} (core : CoreState) (put : A → CoreState) (did : Did A) → ((a : A) → declared_in (put a).ports ≡ declared_in core.ports) → declared_after core (map_did put did) ≡ declared_in core.ports
 told_ports core put (Made left made sent) h = h left
 told_ports core put Paused h = refl
 told_ports core put (Traps kind) h = refl
@@ -109,13 +109,13 @@ told_ports core put Idle h = refl
 
 module _ (home : Home) (core : CoreState) (t : ℕ) (thread : Thread) where
   -- the ports are changed
-  told_put : (did : Did (List Port)) → AreDeclared core.ports did → declared_after core (told (goes_with put_ports core t thread) did) ≡ declared_in core.ports
+  told_put : (did : Did (List Port)) → AreDeclared core.ports did → declared_after core (map_did (goes_with put_ports core t thread) did) ≡ declared_in core.ports
   told_put (Made left made sent) h = h
   told_put Paused h = refl
   told_put (Traps kind) h = refl
   told_put Idle h = refl
 
-  told_given : (d : Reg) (did : Did (Given (List Port))) → AreGiven core.ports did → declared_after core (told (gets_with put_ports core t thread d) did) ≡ declared_in core.ports
+  told_given : (d : Reg) (did : Did (Given (List Port))) → AreGiven core.ports did → declared_after core (map_did (gets_with put_ports core t thread d) did) ≡ declared_in core.ports
   told_given d (Made left made sent) h = h
   told_given d Paused h = refl
   told_given d (Traps kind) h = refl
@@ -208,7 +208,7 @@ module _ (home : Home) (core : CoreState) (t : ℕ) (thread : Thread) where
   of_row (Setv r k) = told_ports core _ _ (λ a. refl)
   of_row (Eeu r) = told_ports core _ _ (λ a. refl)
   of_row (Edu r) = told_ports core _ _ (λ a. refl)
-  of_row i = told_ports core (put_own core t thread) (own_row (own_of core thread) i) (λ a. refl)
+  of_row i = told_ports core (put_local core t thread) (local_row (local_of core thread) i) (λ a. refl)
 
   of_latched_port : (n : ℕ) (o : Option Port) → slice_get core.ports n ≡ o → declared_in (port_latched_at home core.clock core.ports n o) ≡ declared_in core.ports
   of_latched_port n None e = refl

@@ -20,13 +20,13 @@ use Rattle.xs_instr.specs.declared.state.Thread.{Thread}
 use Rattle.xs_instr.specs.declared.trace.Record.{Record}
 use Rattle.xs_instr.specs.declared.state.Timer.{Timer}
 use Rattle.xs_instr.specs.declared.state.Watch.{Watch}
-use Rattle.xs_instr.specs.Did.{Did, Made, Paused, Traps, Idle, makes, told}
+use Rattle.xs_instr.specs.Did.{Did, Made, Paused, Traps, Idle, makes, map_did}
 use Rattle.xs_instr.specs.Events.{cleared, cleared_in, disable_row, enable_row, latched, on_evented, owner_at, there, vector_at, vector_row, watch_of, watch_put}
 use Rattle.xs_instr.specs.Machine.{boot_core, boot_timer}
 use Rattle.xs_instr.specs.Memory.{address_at, word_at}
 use Rattle.xs_instr.specs.Registers.{reg_get}
 use Rattle.xs_instr.specs.Resources.{Named, APort, ATimer, AnEnd, ASync, ALock, usable}
-use Rattle.xs_instr.specs.Rows.{Own, held, sets_where, passes_by, loads, stores, jumps_by, enters_where, enters_by, returns_where, returns_by, own_row, own_of, put_own, out_row, in_row, cond_row, data_row, free_row, get_row, wait_row, end_row, names, row, goes_with, gets_with, put_events, put_timers}
+use Rattle.xs_instr.specs.Rows.{Local, reg, sets_where, passes_by, loads, stores, jumps_by, enters_where, enters_by, returns_where, returns_by, local_row, local_of, put_local, out_row, in_row, cond_row, data_row, free_row, get_row, wait_row, end_row, names, row, goes_with, gets_with, put_events, put_timers}
 use Rattle.xs_instr.specs.Slot.{fetched, event_or_row, instr_at, pick_where, takes_events, turn_of, turn_at, slot}
 use Rattle.xs_instr.specs.Timers.{clock_by, clock_latched, clock_read, is_timer_cond, timer_cond_by, timer_cond_set, timer_data_set, timer_latched_at, timer_meets}
 use Rattle.xr_simulation.specs.Sizes.{Sizes, sizes_in, sizes_of}
@@ -61,7 +61,7 @@ sizes_after core Idle = sizes_of core
 
 -- a part is changed that counts for none of them
 told_sized : {A : Type 0} (core : CoreState) (put : A → CoreState) (did : Did A) → ((a : A) → sizes_of (put a) ≡ sizes_of core) →
-    sizes_after core (told put did) ≡ sizes_of core
+    sizes_after core (map_did put did) ≡ sizes_of core
 told_sized core put (Made left made sent) h = h left
 told_sized core put Paused h = refl
 told_sized core put (Traps kind) h = refl
@@ -77,7 +77,7 @@ IfMade P Idle = Unit {0}
 -- one is changed that counts, and stays as long
 told_if : {A : Type 0} (core : CoreState) (put : A → CoreState) (P : A → Type 0) (did : Did A) →
     ((a : A) → P a → sizes_of (put a) ≡ sizes_of core) →
-    IfMade P did → sizes_after core (told put did) ≡ sizes_of core
+    IfMade P did → sizes_after core (map_did put did) ≡ sizes_of core
 told_if core put P (Made left made sent) h k = h left k
 told_if core put P Paused h k = refl
 told_if core put P (Traps kind) h k = refl
@@ -171,13 +171,13 @@ evented_many core P go h (AnEnd n) = there_many P (go (ResEnd n)) (h (ResEnd n))
 evented_many core P go h _ = tt
 
 -- as many words as a thread has behind its own row
-abbrev own_after : Own → Did Own → ℕ
+abbrev own_after : Local → Did Local → ℕ
 own_after own (Made left made sent) = length left.words
 own_after own Paused = length own.words
 own_after own (Traps kind) = length own.words
 own_after own Idle = length own.words
 
-module _ (own : Own) where
+module _ (own : Local) where
   of_sets : (d : Reg) (o : Option ℕ) → own_after own (sets_where own d o) ≡ length own.words
   of_sets d None = refl
   of_sets d (Some v) = refl
@@ -214,30 +214,30 @@ module _ (own : Own) where
   of_returns n true = refl
   of_returns n false = of_returns_where (address_at own.regs.sp n) (word_at own.words (address_at own.regs.sp n))
 
-  of_own : (i : Instr) → own_after own (own_row own i) ≡ length own.words
-  of_own (Divs d a b) = of_sets d (div_s (held own a) (held own b))
-  of_own (Rems d a b) = of_sets d (rem_s (held own a) (held own b))
-  of_own (Divu d a b) = of_sets d (div_u (held own a) (held own b))
-  of_own (Remu d a b) = of_sets d (rem_u (held own a) (held own b))
-  of_own (Ecallf a) = of_passes (not (nat_eq (held own a) 0))
-  of_own (Ecallt a) = of_passes (nat_eq (held own a) 0)
+  of_own : (i : Instr) → own_after own (local_row own i) ≡ length own.words
+  of_own (Divs d a b) = of_sets d (div_s (reg own a) (reg own b))
+  of_own (Rems d a b) = of_sets d (rem_s (reg own a) (reg own b))
+  of_own (Divu d a b) = of_sets d (div_u (reg own a) (reg own b))
+  of_own (Remu d a b) = of_sets d (rem_u (reg own a) (reg own b))
+  of_own (Ecallf a) = of_passes (not (nat_eq (reg own a) 0))
+  of_own (Ecallt a) = of_passes (nat_eq (reg own a) 0)
   of_own (Ldwdp d n) = of_loads d (word_at own.words (address_at own.regs.dp n))
-  of_own (Stwdp s n) = of_stores (held own s) (address_at own.regs.dp n) (word_at own.words (address_at own.regs.dp n))
+  of_own (Stwdp s n) = of_stores (reg own s) (address_at own.regs.dp n) (word_at own.words (address_at own.regs.dp n))
   of_own (Ldwsp d n) = of_loads d (word_at own.words (address_at own.regs.sp n))
-  of_own (Stwsp s n) = of_stores (held own s) (address_at own.regs.sp n) (word_at own.words (address_at own.regs.sp n))
-  of_own (Ldw d b i) = of_loads d (word_at own.words (address_at (held own b) (held own i)))
-  of_own (Stw s b i) = of_stores (held own s) (address_at (held own b) (held own i)) (word_at own.words (address_at (held own b) (held own i)))
-  of_own (Brft a k) = of_jumps k (not (nat_eq (held own a) 0))
-  of_own (Brff a k) = of_jumps k (nat_eq (held own a) 0)
-  of_own (Brbt a k) = of_jumps k (not (nat_eq (held own a) 0))
-  of_own (Brbf a k) = of_jumps k (nat_eq (held own a) 0)
+  of_own (Stwsp s n) = of_stores (reg own s) (address_at own.regs.sp n) (word_at own.words (address_at own.regs.sp n))
+  of_own (Ldw d b i) = of_loads d (word_at own.words (address_at (reg own b) (reg own i)))
+  of_own (Stw s b i) = of_stores (reg own s) (address_at (reg own b) (reg own i)) (word_at own.words (address_at (reg own b) (reg own i)))
+  of_own (Brft a k) = of_jumps k (not (nat_eq (reg own a) 0))
+  of_own (Brff a k) = of_jumps k (nat_eq (reg own a) 0)
+  of_own (Brbt a k) = of_jumps k (not (nat_eq (reg own a) 0))
+  of_own (Brbf a k) = of_jumps k (nat_eq (reg own a) 0)
   of_own (Entsp n) = of_enters n (nat_eq n 0)
   of_own (Retsp n) = of_returns n (nat_eq n 0)
   of_own i = refl
 
-told_own : (core : CoreState) (t : ℕ) (thread : Thread) (did : Did Own) → own_after (own_of core thread) did ≡ length core.words →
-    sizes_after core (told (put_own core t thread) did) ≡ sizes_of core
-told_own core t thread (Made left made sent) h = words_sized core (put_own core t thread left) h refl refl
+told_own : (core : CoreState) (t : ℕ) (thread : Thread) (did : Did Local) → own_after (local_of core thread) did ≡ length core.words →
+    sizes_after core (map_did (put_local core t thread) did) ≡ sizes_of core
+told_own core t thread (Made left made sent) h = words_sized core (put_local core t thread left) h refl refl
 told_own core t thread Paused h = refl
 told_own core t thread (Traps kind) h = refl
 told_own core t thread Idle h = refl
@@ -291,7 +291,7 @@ module _ (home : Home) (core : CoreState) (t : ℕ) (thread : Thread) where
   of_end (Some n) = refl
 
   of_events : (go : Res → Did Events) → ((res : Res) → IfMade (AreAsMany core.events) (go res)) → (x : Named) →
-      sizes_after core (told (goes_with put_events core t thread) (on_evented core go x)) ≡ sizes_of core
+      sizes_after core (map_did (goes_with put_events core t thread) (on_evented core go x)) ≡ sizes_of core
   of_events go h x =
       told_if core (goes_with put_events core t thread) (AreAsMany core.events) (on_evented core go x) (events_sized core)
       (evented_many core (AreAsMany core.events) go h x)
@@ -334,7 +334,7 @@ module _ (home : Home) (core : CoreState) (t : ℕ) (thread : Thread) where
       (names home thread r)
   of_row (Edu r) = of_events (disable_row core.events) (λ res. owner_many core.events res None (watch_of core.events res))
       (names home thread r)
-  of_row i = told_own core t thread (own_row (own_of core thread) i) (of_own (own_of core thread) i)
+  of_row i = told_own core t thread (local_row (local_of core thread) i) (of_own (local_of core thread) i)
 
   of_latched : (x : Res) → sizes_of (latched home core x) ≡ sizes_of core
   of_latched (ResPort n) = refl

@@ -12,11 +12,11 @@ use Rattle.xs_instr.specs.declared.state.CoreState.{CoreState}
 use Rattle.xs_instr.specs.declared.state.Mode.TheVariants.{Running, Unused}
 use Rattle.xs_instr.specs.declared.state.Regs.{Regs}
 use Rattle.xs_instr.specs.declared.state.Thread.{Thread}
-use Rattle.xs_instr.specs.Did.{makes, told}
+use Rattle.xs_instr.specs.Did.{makes, map_did}
 use Rattle.xs_instr.specs.Machine.{boot_core, boot_port, boot_ports, boot_threads, root_thread, unused_thread}
 use Rattle.xs_instr.specs.Pool.{is_tied, is_unused}
 use Rattle.xs_instr.specs.Registers.{no_regs, reg_set}
-use Rattle.xs_instr.specs.Rows.{own_of, own_row, put_own, row}
+use Rattle.xs_instr.specs.Rows.{local_of, local_row, put_local, row}
 use Rattle.xs_instr.specs.Slot.{instr_at, is_waiteu}
 use Rattle.xl_expr.proofs.Lists.{get_set_same, get_set_other}
 use Rattle.xl_expr.proofs.ResourceParts.{others_same, own_same, own_then}
@@ -132,8 +132,8 @@ module _ (g : Setting) (r : Runner) where
   -- an instruction that changes registers alone leads there, as far as the runner can tell
   by_regs : (z : ThreadView) (pc : ℕ) (regs : Regs) (i : Instr) → IsAt g r z pc regs → instr_at (home g r) pc ≡ Some i →
       is_waiteu (Some i) ≡ false →
-      ((a : CoreState) (x : Thread) → row (home g r) a r.thread x i ≡ told (put_own a r.thread x) (own_row (own_of a x) i)) → (pc' : ℕ) (regs' : Regs) →
-      ((words : List ℕ) → own_row (record { pc = pc; regs = regs; words = words }) i ≡ makes (record { pc = pc'; regs = regs'; words = words })) →
+      ((a : CoreState) (x : Thread) → row (home g r) a r.thread x i ≡ map_did (put_local a r.thread x) (local_row (local_of a x) i)) → (pc' : ℕ) (regs' : Regs) →
+      ((words : List ℕ) → local_row (record { pc = pc; regs = regs; words = words }) i ≡ makes (record { pc = pc'; regs = regs'; words = words })) →
       (held : (u : ℕ) → IsAmong (held_in z.hand) u → u ≢ r.thread) →
       LeadsIn g r (Rely g r (after g r z (at_spot z.core pc' regs'))) 1 z
   by_regs z pc regs i here code no_event own pc' regs' does held =
@@ -146,7 +146,7 @@ module _ (g : Setting) (r : Runner) where
       let there = get_set_same y.core.threads r.thread th th' here_y in (
         after g r y left,
         record {
-          made = fetched ∙ own y.core th ∙ ap (told (put_own y.core r.thread th)) (does y.core.words);
+          made = fetched ∙ own y.core th ∙ ap (map_did (put_local y.core r.thread th)) (does y.core.words);
           world = refl;
           roots = refl;
           channel_ends = refl;

@@ -2,14 +2,14 @@ use Rattle.std.proofs.Common.{◌≡◌, ◌∙◌, ◌%◌, ◌^◌, ℕ, true,
 use Rattle.xs_core.proofs.rows.row.Goals as goal
 use Rattle.xs_core.specs.declared.names.Resource.{Resource}
 use Rattle.xs_core.specs.Names.{meant_by}
-use Rattle.xs_core.specs.Own.{is_own}
+use Rattle.xs_core.specs.Local.{is_local}
 use Rattle.xs_core.specs.Seen.{home_of, state_of}
-use Rattle.xs_core.specs.Turns.{HasByte}
+use Rattle.xs_core.specs.SlotResults.{HasByte}
 use Rattle.xs_instr.specs.declared.instr.Instr.{Instr}
 use Rattle.xs_instr.specs.declared.instr.Instr.TheVariants.{Getr, Freer, Getst, Tinitpc, Tinitdp, Tinitsp, Msync, Ssync, Mjoin, Freet, Out, Outt, Outct, In, Int, Chkct, Setc, Setd, Setpt, Getts, Setv, Eeu, Edu, Clre, Waiteu, Setsr, Clrsr}
 use Rattle.xs_instr.specs.declared.instr.Reg.TheVariants.{Dp, Sp}
 use Rattle.xs_instr.specs.declared.state.Token.{Token}
-use Rattle.xs_instr.specs.Did.{told}
+use Rattle.xs_instr.specs.Did.{map_did}
 use Rattle.xs_instr.specs.Ends.{control_token, data_token, ins_byte, outs}
 use Rattle.xs_instr.specs.Events.{disable_row, enable_row, on_evented, vector_row}
 use Rattle.xs_instr.specs.Pool.{joined, prepared, synced, thread_got, with_pc, with_reg}
@@ -117,7 +117,7 @@ returns-in-Getst-clause-means c =
     let t = c.args.t in
     let x = c.args.thread.now in
     c.get_thread.ensures.means t x
-    ∙ ap (λ (k : Named). told (gets_with put_threads core t x c.in-Getst.d) (on_sync core (thread_got home.number core.threads) k)) (looked _ _ _ _ _ c.look_up-in-Getst.ensures c.core-core.ensures c.get-in-Getst.ensures)
+    ∙ ap (λ (k : Named). map_did (gets_with put_threads core t x c.in-Getst.d) (on_sync core (thread_got home.number core.threads) k)) (looked _ _ _ _ _ c.look_up-in-Getst.ensures c.core-core.ensures c.get-in-Getst.ensures)
     ∙ ap (row home core t x) (sym c.in-Getst.is)
 
 pub returns-in-Tinitpc-clause-means : goal.returns-in-Tinitpc-clause-means
@@ -127,7 +127,7 @@ returns-in-Tinitpc-clause-means c =
     let t = c.args.t in
     let x = c.args.thread.now in
     c.set_pc.ensures.means t x
-    ∙ ap (λ (k : Named). told (goes_with put_threads core t x) (on_thread core (prepared (with_pc c.in-Tinitpc.k) core.threads) k)) (looked _ _ _ _ _ c.look_up-in-Tinitpc.ensures c.core-core.ensures c.get-in-Tinitpc.ensures)
+    ∙ ap (λ (k : Named). map_did (goes_with put_threads core t x) (on_thread core (prepared (with_pc c.in-Tinitpc.k) core.threads) k)) (looked _ _ _ _ _ c.look_up-in-Tinitpc.ensures c.core-core.ensures c.get-in-Tinitpc.ensures)
     ∙ ap (row home core t x) (sym c.in-Tinitpc.is)
 
 pub returns-in-Msync-clause-means : goal.returns-in-Msync-clause-means
@@ -137,7 +137,7 @@ returns-in-Msync-clause-means c =
     let t = c.args.t in
     let x = c.args.thread.now in
     c.start.ensures.means t x
-    ∙ ap (λ (k : Named). told (goes_with put_threads core t x) (on_sync core (synced core.threads) k)) (looked _ _ _ _ _ c.look_up-in-Msync.ensures c.core-core.ensures c.get-in-Msync.ensures)
+    ∙ ap (λ (k : Named). map_did (goes_with put_threads core t x) (on_sync core (synced core.threads) k)) (looked _ _ _ _ _ c.look_up-in-Msync.ensures c.core-core.ensures c.get-in-Msync.ensures)
     ∙ ap (row home core t x) (sym c.in-Msync.is)
 
 pub returns-in-Mjoin-clause-means : goal.returns-in-Mjoin-clause-means
@@ -147,7 +147,7 @@ returns-in-Mjoin-clause-means c =
     let t = c.args.t in
     let x = c.args.thread.now in
     c.join.ensures.means t x
-    ∙ ap (λ (k : Named). told (goes_with put_threads core t x) (on_sync core (joined core.threads) k)) (looked _ _ _ _ _ c.look_up-in-Mjoin.ensures c.core-core.ensures c.get-in-Mjoin.ensures)
+    ∙ ap (λ (k : Named). map_did (goes_with put_threads core t x) (on_sync core (joined core.threads) k)) (looked _ _ _ _ _ c.look_up-in-Mjoin.ensures c.core-core.ensures c.get-in-Mjoin.ensures)
     ∙ ap (row home core t x) (sym c.in-Mjoin.is)
 
 pub returns-in-Int-clause-means : goal.returns-in-Int-clause-means
@@ -157,7 +157,7 @@ returns-in-Int-clause-means c =
     let t = c.args.t in
     let x = c.args.thread.now in
     c.take_byte.ensures.means t x
-    ∙ ap (λ (k : Named). told (gets_with put_ends core t x c.in-Int.d) (on_end core (ins_byte home core.clock core.ends) k)) (looked _ _ _ _ _ c.look_up-in-Int.ensures c.core-core.ensures c.get-in-Int.ensures)
+    ∙ ap (λ (k : Named). map_did (gets_with put_ends core t x c.in-Int.d) (on_end core (ins_byte home core.clock core.ends) k)) (looked _ _ _ _ _ c.look_up-in-Int.ensures c.core-core.ensures c.get-in-Int.ensures)
     ∙ ap (row home core t x) (sym c.in-Int.is)
 
 pub returns-in-Setc-clause-means : goal.returns-in-Setc-clause-means
@@ -177,7 +177,7 @@ returns-in-Getts-clause-means c =
     let t = c.args.t in
     let x = c.args.thread.now in
     c.stamp.ensures.means t x
-    ∙ ap (λ (k : Named). told (gets_with put_ports core t x c.in-Getts.d) (on_port core (port_stamp core.ports) k)) (looked _ _ _ _ _ c.look_up-in-Getts.ensures c.core-core.ensures c.get-in-Getts.ensures)
+    ∙ ap (λ (k : Named). map_did (gets_with put_ports core t x c.in-Getts.d) (on_port core (port_stamp core.ports) k)) (looked _ _ _ _ _ c.look_up-in-Getts.ensures c.core-core.ensures c.get-in-Getts.ensures)
     ∙ ap (row home core t x) (sym c.in-Getts.is)
 
 pub returns-in-Setv-clause-means : goal.returns-in-Setv-clause-means
@@ -187,7 +187,7 @@ returns-in-Setv-clause-means c =
     let t = c.args.t in
     let x = c.args.thread.now in
     c.set_vector.ensures.means t x
-    ∙ ap (λ (k : Named). told (goes_with put_events core t x) (on_evented core (vector_row core.events c.in-Setv.k) k)) (looked _ _ _ _ _ c.look_up-in-Setv.ensures c.core-core.ensures c.get-in-Setv.ensures)
+    ∙ ap (λ (k : Named). map_did (goes_with put_events core t x) (on_evented core (vector_row core.events c.in-Setv.k) k)) (looked _ _ _ _ _ c.look_up-in-Setv.ensures c.core-core.ensures c.get-in-Setv.ensures)
     ∙ ap (row home core t x) (sym c.in-Setv.is)
 
 pub returns-in-Eeu-clause-means : goal.returns-in-Eeu-clause-means
@@ -197,7 +197,7 @@ returns-in-Eeu-clause-means c =
     let t = c.args.t in
     let x = c.args.thread.now in
     c.enable.ensures.means t x
-    ∙ ap (λ (k : Named). told (goes_with put_events core t x) (on_evented core (enable_row core.events t) k)) (looked _ _ _ _ _ c.look_up-in-Eeu.ensures c.core-core.ensures c.get-in-Eeu.ensures)
+    ∙ ap (λ (k : Named). map_did (goes_with put_events core t x) (on_evented core (enable_row core.events t) k)) (looked _ _ _ _ _ c.look_up-in-Eeu.ensures c.core-core.ensures c.get-in-Eeu.ensures)
     ∙ ap (row home core t x) (sym c.in-Eeu.is)
 
 pub returns-in-Edu-clause-means : goal.returns-in-Edu-clause-means
@@ -207,7 +207,7 @@ returns-in-Edu-clause-means c =
     let t = c.args.t in
     let x = c.args.thread.now in
     c.disable.ensures.means t x
-    ∙ ap (λ (k : Named). told (goes_with put_events core t x) (on_evented core (disable_row core.events) k)) (looked _ _ _ _ _ c.look_up-in-Edu.ensures c.core-core.ensures c.get-in-Edu.ensures)
+    ∙ ap (λ (k : Named). map_did (goes_with put_events core t x) (on_evented core (disable_row core.events) k)) (looked _ _ _ _ _ c.look_up-in-Edu.ensures c.core-core.ensures c.get-in-Edu.ensures)
     ∙ ap (row home core t x) (sym c.in-Edu.is)
 
 pub returns-in-Getr-clause-means : goal.returns-in-Getr-clause-means
@@ -332,9 +332,9 @@ returns-in-Tinitdp-clause-means c =
     let t = c.args.t in
     let x = c.args.thread.now in
     c.set_reg.ensures.means t x
-    ∙ ap (λ (v : ℕ). told (goes_with put_threads core t x) (on_thread core (prepared (with_reg Dp v) core.threads)
+    ∙ ap (λ (v : ℕ). map_did (goes_with put_threads core t x) (on_thread core (prepared (with_reg Dp v) core.threads)
     (meant_by c.look_up-in-Tinitdp.result))) c.get-in-Tinitdp-2.ensures
-    ∙ ap (λ (k : Named). told (goes_with put_threads core t x) (on_thread core (prepared (with_reg Dp (reg_get x.regs c.in-Tinitdp.s)) core.threads)
+    ∙ ap (λ (k : Named). map_did (goes_with put_threads core t x) (on_thread core (prepared (with_reg Dp (reg_get x.regs c.in-Tinitdp.s)) core.threads)
     k)) (looked _ _ _ _ _ c.look_up-in-Tinitdp.ensures c.core-core.ensures c.get-in-Tinitdp.ensures)
     ∙ ap (row home core t x) (sym c.in-Tinitdp.is)
 
@@ -345,9 +345,9 @@ returns-in-Tinitsp-clause-means c =
     let t = c.args.t in
     let x = c.args.thread.now in
     c.set_reg-in-Tinitsp.ensures.means t x
-    ∙ ap (λ (v : ℕ). told (goes_with put_threads core t x) (on_thread core (prepared (with_reg Sp v) core.threads)
+    ∙ ap (λ (v : ℕ). map_did (goes_with put_threads core t x) (on_thread core (prepared (with_reg Sp v) core.threads)
     (meant_by c.look_up-in-Tinitsp.result))) c.get-in-Tinitsp-2.ensures
-    ∙ ap (λ (k : Named). told (goes_with put_threads core t x) (on_thread core (prepared (with_reg Sp (reg_get x.regs c.in-Tinitsp.s)) core.threads)
+    ∙ ap (λ (k : Named). map_did (goes_with put_threads core t x) (on_thread core (prepared (with_reg Sp (reg_get x.regs c.in-Tinitsp.s)) core.threads)
     k)) (looked _ _ _ _ _ c.look_up-in-Tinitsp.ensures c.core-core.ensures c.get-in-Tinitsp.ensures)
     ∙ ap (row home core t x) (sym c.in-Tinitsp.is)
 
@@ -394,9 +394,9 @@ returns-in-Setpt-clause-means c =
     let t = c.args.t in
     let x = c.args.thread.now in
     c.set_time.ensures.means t x
-    ∙ ap (λ (v : ℕ). told (goes_with put_ports core t x) (on_port core (port_time_set v core.ports) (meant_by c.look_up-in-Setpt.result)))
+    ∙ ap (λ (v : ℕ). map_did (goes_with put_ports core t x) (on_port core (port_time_set v core.ports) (meant_by c.look_up-in-Setpt.result)))
     c.get-in-Setpt-2.ensures
-    ∙ ap (λ (k : Named). told (goes_with put_ports core t x) (on_port core (port_time_set (reg_get x.regs c.in-Setpt.s) core.ports) k))
+    ∙ ap (λ (k : Named). map_did (goes_with put_ports core t x) (on_port core (port_time_set (reg_get x.regs c.in-Setpt.s) core.ports) k))
     (looked _ _ _ _ _ c.look_up-in-Setpt.ensures c.core-core.ensures c.get-in-Setpt.ensures)
     ∙ ap (row home core t x) (sym c.in-Setpt.is)
 
@@ -407,9 +407,9 @@ returns-in-Outt-clause-means c =
     let t = c.args.t in
     let x = c.args.thread.now in
     c.send_token.ensures.means t x
-    ∙ ap (λ (y : Token). told (goes_with put_ends core t x) (on_end core (outs home core.clock (y ∷ []) core.ends)
+    ∙ ap (λ (y : Token). map_did (goes_with put_ends core t x) (on_end core (outs home core.clock (y ∷ []) core.ends)
     (meant_by c.look_up-in-Outt.result))) (c.data_token.ensures ∙ ap (λ v. data_token (v % 2 ^ 8)) c.get-in-Outt-2.ensures)
-    ∙ ap (λ (k : Named). told (goes_with put_ends core t x) (on_end core
+    ∙ ap (λ (k : Named). map_did (goes_with put_ends core t x) (on_end core
     (outs home core.clock ((data_token (reg_get x.regs c.in-Outt.s % 2 ^ 8)) ∷ []) core.ends) k))
     (looked _ _ _ _ _ c.look_up-in-Outt.ensures c.core-core.ensures c.get-in-Outt.ensures)
     ∙ ap (row home core t x) (sym c.in-Outt.is)
@@ -421,9 +421,9 @@ returns-in-Outct-clause-means c =
     let t = c.args.t in
     let x = c.args.thread.now in
     c.send_token-in-Outct.ensures.means t x
-    ∙ ap (λ (y : Token). told (goes_with put_ends core t x) (on_end core (outs home core.clock (y ∷ []) core.ends)
+    ∙ ap (λ (y : Token). map_did (goes_with put_ends core t x) (on_end core (outs home core.clock (y ∷ []) core.ends)
     (meant_by c.look_up-in-Outct.result))) c.control_token.ensures
-    ∙ ap (λ (k : Named). told (goes_with put_ends core t x) (on_end core (outs home core.clock ((control_token c.in-Outct.n) ∷ []) core.ends) k))
+    ∙ ap (λ (k : Named). map_did (goes_with put_ends core t x) (on_end core (outs home core.clock ((control_token c.in-Outct.n) ∷ []) core.ends) k))
     (looked _ _ _ _ _ c.look_up-in-Outct.ensures c.core-core.ensures c.get-in-Outct.ensures)
     ∙ ap (row home core t x) (sym c.in-Outct.is)
 
@@ -434,7 +434,7 @@ control_token-requires c = subst HasByte c.in-Outct.is c.requires
 pub own-requires : goal.own-requires
 own-requires c = go c.args.instr refl
   where
-    go : (i : Instr) → c.args.instr ≡ i → is_own i ≡ true
+    go : (i : Instr) → c.args.instr ≡ i → is_local i ≡ true
     go (Getr d kind) e = absurd (c.in_default.not-Getr d kind e)
     go (Freer r) e = absurd (c.in_default.not-Freer r e)
     go (Getst d r) e = absurd (c.in_default.not-Getst d r e)

@@ -6,16 +6,16 @@ use Rattle.xs_core.proofs.Unused.{others_stay, still_unused}
 use Rattle.xs_core.proofs.slots.take_any.Goals as goal
 use Rattle.xs_core.specs.declared.did.Did.TheVariants.{Made as DidMake, Paused as DidPause, Trapped as DidTrap, Idle as DidRest}
 use Rattle.xs_core.specs.declared.state.State.{State}
-use Rattle.xs_core.specs.declared.turn.Turn.TheVariants.{Idle, Paused, Trapped, Own, Pool, End, Port, Event, Take}
+use Rattle.xs_core.specs.declared.slot_result.SlotResult.TheVariants.{Idle, Paused, Trapped, Local, Pool, End, Port, Event, Take}
 use Rattle.xs_core.specs.Ends.{end_did}
 use Rattle.xs_core.specs.Events.{event_did}
 use Rattle.xs_core.specs.Idle.{KeepsOthers}
 use Rattle.xs_core.specs.Order.{IsInOrder, KeepsHome}
-use Rattle.xs_core.specs.Own.{own_after, own_in, with_own}
+use Rattle.xs_core.specs.Local.{local_after, local_in, with_local}
 use Rattle.xs_core.specs.Pool.{pool_did}
 use Rattle.xs_core.specs.Ports.{port_did}
 use Rattle.xs_core.specs.Seen.{home_of, state_of, thread_at}
-use Rattle.xs_core.specs.Turns.{Keeps}
+use Rattle.xs_core.specs.SlotResults.{Keeps}
 use Rattle.xs_instr.specs.declared.state.Thread.{Thread}
 use Rattle.xs_instr.specs.Machine.{unused_thread}
 use Rattle.xs_instr.specs.Slot.{trapped_at}
@@ -37,8 +37,8 @@ returns-in-Trapped-clause-rest c =
     let threads = c.args.state.now.threads in
     still_unused c.args.in_use.now c.args.t threads _ c.requires.used c.requires.unused (others_stay threads c.args.t _)
 
-pub returns-in-Own-clause-rest : goal.returns-in-Own-clause-rest
-returns-in-Own-clause-rest c =
+pub returns-in-Local-clause-rest : goal.returns-in-Local-clause-rest
+returns-in-Local-clause-rest c =
     let threads = c.args.state.now.threads in
     still_unused c.args.in_use.now c.args.t threads c.apply.new.threads c.requires.used c.requires.unused
     (subst (λ (l : List Thread). KeepsOthers c.args.t threads l) (sym c.apply.ensures.threads) (others_stay threads c.args.t _))
@@ -126,11 +126,11 @@ returns-in-Trapped-clause-home c = record { fixed = refl; core = refl; stim = re
 pub returns-in-Trapped-clause-order : goal.returns-in-Trapped-clause-order
 returns-in-Trapped-clause-order c = threads_set c.args.state.now _ c.args.state.now.words c.requires.order
 
-pub returns-in-Own-clause-home : goal.returns-in-Own-clause-home
-returns-in-Own-clause-home c = record { fixed = refl; core = refl; stim = refl }
+pub returns-in-Local-clause-home : goal.returns-in-Local-clause-home
+returns-in-Local-clause-home c = record { fixed = refl; core = refl; stim = refl }
 
-pub returns-in-Own-clause-order : goal.returns-in-Own-clause-order
-returns-in-Own-clause-order c = threads_set c.args.state.now c.apply.new.threads c.apply.new.words c.requires.order
+pub returns-in-Local-clause-order : goal.returns-in-Local-clause-order
+returns-in-Local-clause-order c = threads_set c.args.state.now c.apply.new.threads c.apply.new.words c.requires.order
 
 pub returns-in-Pool-clause-home : goal.returns-in-Pool-clause-home
 returns-in-Pool-clause-home c = home_kept c.args.state.now c.apply-in-Pool.new.state c.apply-in-Pool.ensures.keeps
@@ -186,11 +186,11 @@ returns-in-Trapped-clause-few c = more (length c.args.outbox.now.items)
 pub returns-in-Trapped-clause-capacity : goal.returns-in-Trapped-clause-capacity
 returns-in-Trapped-clause-capacity c = refl
 
-pub returns-in-Own-clause-few : goal.returns-in-Own-clause-few
-returns-in-Own-clause-few c = more (length c.args.outbox.now.items)
+pub returns-in-Local-clause-few : goal.returns-in-Local-clause-few
+returns-in-Local-clause-few c = more (length c.args.outbox.now.items)
 
-pub returns-in-Own-clause-capacity : goal.returns-in-Own-clause-capacity
-returns-in-Own-clause-capacity c = refl
+pub returns-in-Local-clause-capacity : goal.returns-in-Local-clause-capacity
+returns-in-Local-clause-capacity c = refl
 
 pub returns-in-Pool-clause-few : goal.returns-in-Pool-clause-few
 returns-in-Pool-clause-few c = more (length c.args.outbox.now.items)
@@ -225,8 +225,8 @@ returns-in-Paused-clause-less c = c.requires.few
 pub returns-in-Trapped-clause-less : goal.returns-in-Trapped-clause-less
 returns-in-Trapped-clause-less c = c.requires.few
 
-pub returns-in-Own-clause-less : goal.returns-in-Own-clause-less
-returns-in-Own-clause-less c = c.requires.few
+pub returns-in-Local-clause-less : goal.returns-in-Local-clause-less
+returns-in-Local-clause-less c = c.requires.few
 
 pub returns-in-End-clause-less : goal.returns-in-End-clause-less
 returns-in-End-clause-less c = c.requires.few
@@ -268,17 +268,17 @@ pub returns-in-Take-clause-rest : goal.returns-in-Take-clause-rest
 returns-in-Take-clause-rest c = still_unused c.args.in_use.now c.args.t c.args.state.now.threads c.take.new.state.threads c.requires.used
     c.requires.unused c.take.ensures.others
 
-pub returns-in-Own-clause-turn : goal.returns-in-Own-clause-turn
-returns-in-Own-clause-turn c =
+pub returns-in-Local-clause-turn : goal.returns-in-Local-clause-turn
+returns-in-Local-clause-turn c =
     let s = c.args.state.now in
     let home = home_of s in
     let core = state_of s in
     let x = thread_at s.threads c.args.t in
     let box = c.args.outbox.now.items in
-    let own = own_after (own_in x s.words) c.in-Own.step in
-    decided home core c.args.t x c.decide.result (Own c.in-Own.step) (DidMake None) _ box box c.in-Own.is c.decide.ensures.means (
+    let own = local_after (local_in x s.words) c.in-Local.step in
+    decided home core c.args.t x c.decide.result (Local c.in-Local.step) (DidMake None) _ box box c.in-Local.is c.decide.ensures.means (
       ap (λ l. state_of (record s { threads = l; words = c.apply.new.words })) c.apply.ensures.threads
-          ∙ ap (λ w. state_of (record s { threads = slice_set s.threads c.args.t (with_own x own); words = w })) c.apply.ensures.words,
+          ∙ ap (λ w. state_of (record s { threads = slice_set s.threads c.args.t (with_local x own); words = w })) c.apply.ensures.words,
       refl,
       sym
           (append-nil box),

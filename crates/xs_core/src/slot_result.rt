@@ -2,14 +2,14 @@
 
 use crate::end_rows::EndStep;
 use crate::event_rows::EventStep;
-use crate::own_rows::OwnStep;
+use crate::local_rows::LocalStep;
 use crate::pool_rows::PoolStep;
 use crate::port_rows::PortStep;
 use xs_instr::{Res, Trap};
 
 /// What comes of a thread's turn, before it is taken.
 #[derive(Clone, Copy)]
-pub enum Turn {
+pub enum SlotResult {
     /// The thread is unused, or was halted before.
     Idle,
     /// The thread waits.
@@ -17,7 +17,7 @@ pub enum Turn {
     /// The thread is to be halted.
     Trapped(Trap),
     /// A step in registers, memory or flow.
-    Own(OwnStep),
+    Local(LocalStep),
     /// A step with threads, synchronisers and locks.
     Pool(PoolStep),
     /// A step at a channel end.

@@ -1,6 +1,6 @@
 use Rattle.std.proofs.Common.{◌<◌, ◌∙◌, ap, sym, length, rules}
 use Rattle.std.proofs.lemmas.Option.{IfSome_then}
-use Rattle.xs_core.proofs.slots.own_step.Goals as goal
+use Rattle.xs_core.proofs.slots.local_step.Goals as goal
 use Rattle.xs_core.proofs.There.{there}
 use Rattle.xs_core.specs.Seen.{home_of, state_of, thread_at}
 use Rattle.xs_instr.specs.Machine.{unused_thread}
