@@ -63,8 +63,8 @@ fn of_one(operator: Operator, a: u32) -> u32
 {
     match operator {
         Operator::Minus => a.wrapping_neg(),
-        Operator::Flip => !a,
-        Operator::NotTrue => truth(a == 0),
+        Operator::BitNot => !a,
+        Operator::Not => truth(a == 0),
         _ => a,
     }
 }
@@ -75,8 +75,8 @@ fn with_second(operator: Operator, unsigned: bool, a: u32, second: Option<u32>) 
         ≡ word_in (values.with_second (operator_meant operator) unsigned pos a v) }
 {
     match operator {
-        Operator::Both => { if a != 0 { truth_of(second) } else { Some(0) } }
-        Operator::Either => { if a != 0 { Some(1) } else { truth_of(second) } }
+        Operator::And => { if a != 0 { truth_of(second) } else { Some(0) } }
+        Operator::Or => { if a != 0 { Some(1) } else { truth_of(second) } }
         _ => of_two(operator, unsigned, a, second?),
     }
 }
@@ -87,7 +87,7 @@ fn of_two(operator: Operator, unsigned: bool, a: u32, b: u32) -> Option<u32>
         ≡ word_in (values.of_two (operator_meant operator) unsigned pos a b) }
 {
     match operator {
-        Operator::BelowLength => below(a, b),
+        Operator::BoundsCheck => below(a, b),
         Operator::BitAnd => Some(a & b),
         Operator::BitOr => Some(a | b),
         Operator::BitXor => Some(a ^ b),
@@ -99,16 +99,16 @@ fn of_two(operator: Operator, unsigned: bool, a: u32, b: u32) -> Option<u32>
         Operator::Less => Some(truth(is_less(unsigned, a, b))),
         Operator::Greater => Some(truth(is_less(unsigned, b, a))),
         Operator::Equal => Some(truth(a == b)),
-        Operator::Differs => Some(truth(a != b)),
+        Operator::Ne => Some(truth(a != b)),
         Operator::AtMost => Some(truth(!is_less(unsigned, b, a))),
         Operator::AtLeast => Some(truth(!is_less(unsigned, a, b))),
         Operator::ShiftUp => Some(shl(a, b)),
         Operator::ShiftDown => Some(shifted(unsigned, a, b)),
-        Operator::Choose
-        | Operator::Flip
-        | Operator::NotTrue
-        | Operator::Both
-        | Operator::Either
+        Operator::Cond
+        | Operator::BitNot
+        | Operator::Not
+        | Operator::And
+        | Operator::Or
         | Operator::NoOperator => Some(0),
     }
 }

@@ -73,7 +73,7 @@ impl<'p, 'a> Context<'p, 'a> {
         requires { paths.turn ≡ turn_of paths.whole }
         ensures { IfOk result
             (λ copied. (between behind : Names) → copy_of copied behind ≡ spec.loop_at
-            (context_of self.now) paths.whole (kernel.expression_of test) (spec.turn
+            (context_of self.now) paths.whole (kernel.expression_of test) (spec.iteration
             (context_of self.now) paths.whole (copy_of body behind).code (option_to_list
             (option_map kernel.statement_of last))) (copies.code_of (copy_of next between))
             (copies.joined (copy_of next between) (copy_of body behind))) }

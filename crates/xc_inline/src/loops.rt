@@ -161,7 +161,7 @@ impl<'p, 'a> Context<'p, 'a> {
         ensures { IfOk result (λ copied. (between behind : Names) (done : copies.Copy) →
             IfOk body (λ b. copy_of b behind ≡ done) → copy_of copied behind
             ≡ flow.loop_at (context_of self.now) paths.whole (kernel.expression_of test)
-            (flow.turn (context_of self.now) paths.whole done.code [])
+            (flow.iteration (context_of self.now) paths.whole done.code [])
             (copies.code_of (copy_of next between)) (copies.joined (copy_of next between) done)) }
     {
         let (((paths, test), next), body) = with_ok(((paths, test), next), body)?;
@@ -182,7 +182,7 @@ impl<'p, 'a> Context<'p, 'a> {
         ensures { IfOk result (λ copied. (done : copies.Copy) → IfOk body
             (λ b. copy_of b (scope_of scope.now) ≡ done) → copy_of copied (scope_of scope.now)
             ≡ flow.loop_at (context_of self.now) paths.whole (kernel_plain.number 1)
-            (flow.turn (context_of self.now) paths.whole done.code (flow.leave_unless
+            (flow.iteration (context_of self.now) paths.whole done.code (flow.leave_unless
             (context_of self.now) paths.whole (contexts.expression (context_of self.now)
             done.scope (tree.expression_of test.now)) ∷ [])) kernel_plain.no_more done) }
     {

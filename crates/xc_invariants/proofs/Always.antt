@@ -21,7 +21,7 @@ use Rattle.xc_invariants.proofs.Unbroken.{unbroken_apart, unbroken_sided, used_l
 use Rattle.xc_invariants.proofs.Here.{uses_here}
 use Rattle.xc_invariants.proofs.Copied.{copies_are_placed}
 use Rattle.xc_invariants.specs.Lawful.{Obeys, IsTidy, BranchesFit, BudgetsFit, BudgetsStay, BudgetsSuffice, Listed, ListedAt, ListedHolds, PortsAreHere, AcceptedObey, Lawful, LawsBegin, LawsAreKept, LawsHold, NoneClash, OneOnEachSide, some_choice_on, is_on, Tidy, MarksStandOnce, EachHasSide, InsideIsOwn, AloneInside, EachGoesOn, ThreadsSuffice, BranchesStay}
-use Rattle.xc_invariants.specs.Placed.{IsPlaced, AnyBlock, AnyInside, IsFresh, AreUnused, marks_of, ends_of, PlacedItems, IfLively}
+use Rattle.xc_invariants.specs.Placed.{IsPlaced, AnyBlock, AnyInside, IsDistinct, AreUnused, marks_of, ends_of, PlacedItems, IfLively}
 use Rattle.xc_meaning.specs.Outline.{Moved}
 use Rattle.xc_invariants.specs.Each.{EachItem}
 use Rattle.xc_meaning.proofs.Basics.{some_given, none_given, not_false, or_left, or_right, or_cases}
@@ -170,7 +170,7 @@ lively {m} {A} e h = subst (λ n. IfLively n A) e h
 
 -- The tidy laws.
 tidy_step : (K : kernel.Kernel) (s : Stim) (x y : World) → Moved K s x y → Lawful K x → Tidy x → Tidy y
-tidy_step K s x y m h t = record { placed = placed_kept IsFresh AreUnused K s x t.placed m; alone = alone_kept IsFresh K s x h.kernels t.placed t.alone m }
+tidy_step K s x y m h t = record { placed = placed_kept IsDistinct AreUnused K s x t.placed m; alone = alone_kept IsDistinct K s x h.kernels t.placed t.alone m }
 
 -- what each step keeps beside the laws holds along a run
 pub along : (T : World → Type 0) (K : kernel.Kernel) (s : Stim) → ((x y : World) → Moved K s x y → Lawful K x → T x → T y) →
@@ -184,20 +184,20 @@ along T K s kept (m ∷ ms) (Some x) y h e =
 pub tidy_along : (K : kernel.Kernel) (s : Stim) (ms : List Action) (x : World) → Obeys K → IsTidy K → kernel_run K s ms ≡ Some x → Tidy x
 tidy_along K s ms x k t e =
     along Tidy K s (tidy_step K s) ms (Some (kernel_start K)) x
-    (λ z f. (subst (Lawful K) (some_given f) (laws_begin K k), subst Tidy (some_given f) (record { placed = placed_begins IsFresh AreUnused K t.placed; alone = alone_begins IsFresh K t.placed }))) e
+    (λ z f. (subst (Lawful K) (some_given f) (laws_begin K k), subst Tidy (some_given f) (record { placed = placed_begins IsDistinct AreUnused K t.placed; alone = alone_begins IsDistinct K t.placed }))) e
 
 pub inside_is_own : InsideIsOwn
 inside_is_own x h n b e em c u =
     let w = lively em (h.alone.each n b e) in
     ⊎_elim inl (λ v. inr (w.unused c v)) (among_append c (ends_of b.items) w.outer (subst (λ i. IsTrue (is_among c i)) w.is u))
 
-once_behind : (front rest : List Item) (k : ℕ) → PlacedItems IsFresh AnyInside (front ++ mark k ∷ rest) → is_among k (marks_of rest) ≡ false
+once_behind : (front rest : List Item) (k : ℕ) → PlacedItems IsDistinct AnyInside (front ++ mark k ∷ rest) → is_among k (marks_of rest) ≡ false
 once_behind [] rest k h = h.0
 once_behind (item ∷ front) rest k h = once_behind front rest k h.1
 
 pub marks_stand_once : MarksStandOnce
 marks_stand_once x h n b e em front rest k ei =
-    let w = lively em (h.placed.each n b e) in once_behind front rest k (subst (PlacedItems IsFresh AnyInside) ei w.placed)
+    let w = lively em (h.placed.each n b e) in once_behind front rest k (subst (PlacedItems IsDistinct AnyInside) ei w.placed)
 
 -- where a transaction's end is among items, they use its channel
 pub ends_use : (c : ℕ) (items : List Item) → IsTrue (is_among c (ends_of items)) → IsTrue (by_items (channel c) items)

@@ -13,10 +13,10 @@ use Rattle.xc_meaning.specs.Settings.Channels.{is_among}
 use Rattle.xc_kernel.specs.Things.{channel}
 use Rattle.xc_meaning.specs.States.Worlds.{World}
 use Rattle.xc_wellformed.proofs.Formed.{of_programs}
-use Rattle.xc_invariants.specs.Placed.{IsFresh, AnyInside, ends_of, IfLively}
+use Rattle.xc_invariants.specs.Placed.{IsDistinct, AnyInside, ends_of, IfLively}
 use Rattle.xc_invariants.specs.Nested.{StandsInside, EachInside}
 use Rattle.xc_invariants.specs.Rules.{AnyPar, AnyTransaction}
-use Rattle.xc_invariants.specs.Lawful.{UsesOwnPorts, CheckedObey, Fresh, FreshHolds, InsideHolds, EndsAreBehind, UsersAreInside, Listed, KernelsAreListed, CheckedListed, Lawful}
+use Rattle.xc_invariants.specs.Lawful.{UsesOwnPorts, CheckedObey, BlocksAreDistinct, BlocksAreDistinctHolds, InsideHolds, EndsAreBehind, UsersAreInside, Listed, KernelsAreListed, CheckedListed, Lawful}
 use Rattle.xc_invariants.proofs.Always.{accepted_obey, ends_use, differ_not, along, laws_begin, laws_hold, listed_holds}
 use Rattle.xc_invariants.proofs.Channels.{copies_are_listed}
 use Rattle.xc_invariants.proofs.Formed.{fresh_blocks, transactions_listed}
@@ -52,10 +52,10 @@ checked_obey K h =
     (λ b g. h.unbroken b (apart g)) (own_ports K h)
 
 -- its blocks are fresh in each state of its runs
-pub fresh_holds : FreshHolds
+pub fresh_holds : BlocksAreDistinctHolds
 fresh_holds K s ms x k e =
-    along Fresh K s (λ a b m h t. record { placed = placed_kept IsFresh AnyInside K s a t.placed m }) ms (Some (kernel_start K)) x
-    (λ z f. (subst (Lawful K) (some_given f) (laws_begin K (checked_obey K k)), subst Fresh (some_given f) (record { placed = placed_begins IsFresh AnyInside K (fresh_blocks K (of_programs K k.of_program).exits) }))) e
+    along BlocksAreDistinct K s (λ a b m h t. record { placed = placed_kept IsDistinct AnyInside K s a t.placed m }) ms (Some (kernel_start K)) x
+    (λ z f. (subst (Lawful K) (some_given f) (laws_begin K (checked_obey K k)), subst BlocksAreDistinct (some_given f) (record { placed = placed_begins IsDistinct AnyInside K (fresh_blocks K (of_programs K k.of_program).exits) }))) e
 
 -- each branch stands in the transactions whose ends are its own and in those of the one that waits for it
 pub inside_holds : InsideHolds

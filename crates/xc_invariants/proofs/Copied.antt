@@ -9,7 +9,7 @@ use Rattle.xc_tree.specs.Types.Named.{NamedProgram, past}
 use Rattle.xc_tree.specs.Types.Sites.{Site, sites}
 use Rattle.xc_tree.specs.Types.Sites as site
 use Rattle.xc_tree.specs.Names.Marks as marks
-use Rattle.xc_tree.specs.Shapes.Around.{Around, a_block, an_if, a_loop, a_case, a_branch, a_transaction, inside, in_block_of, has_way_out, has_next_turn, in_par_or_transaction}
+use Rattle.xc_tree.specs.Shapes.Enclosing.{Enclosing, a_block, an_if, a_loop, a_case, a_branch, a_transaction, inside, in_block_of, has_way_out, has_next_turn, in_par_or_transaction}
 use Rattle.xc_kernel.specs.Plain as kernel
 use Rattle.xc_kernel.specs.Paths.{Path, path_at, path_of_turn}
 use Rattle.xc_kernel.specs.Numbering.{block_number}
@@ -63,7 +63,7 @@ as_statements free [] h around inside = tt
 as_statements free (x ∷ xs) h around inside = (h.0 around inside, as_statements free xs h.1 around inside)
 
 -- what a statement in this context may leave, by what stands around it
-abbrev Fits : Context → Around → List ℕ → Type 0
+abbrev Fits : Context → Enclosing → List ℕ → Type 0
 Fits c around free =
     (IsTrue (has_way_out around.holders) → IsTrue (is_among (block_number c.numbering c.breaks) free))
     × (IsTrue (has_next_turn around.holders) → IsTrue (is_among (block_number c.numbering c.continues) free))
@@ -75,14 +75,14 @@ one_more k free n u = or_right (nat_eq n k) (is_among n free) u
 the_first : (n : ℕ) (free : List ℕ) → IsTrue (is_among n (n ∷ free))
 the_first n free = or_left (nat_eq n n) (is_among n free) (same_number n)
 
-fits_more : (c : Context) (around : Around) (free : List ℕ) (k : ℕ) → Fits c around free → Fits c around (k ∷ free)
+fits_more : (c : Context) (around : Enclosing) (free : List ℕ) (k : ℕ) → Fits c around free → Fits c around (k ∷ free)
 fits_more c around free k h =
     (λ u. one_more k free (block_number c.numbering c.breaks) (h.0 u), λ u. one_more k free (block_number c.numbering c.continues) (h.1 u), λ u. one_more k free (block_number c.numbering c.returns) (h.2 u))
 
 never : {A : Type 0} → IsTrue false → A
 never u = absurd (true≢false (sym u))
 
-nothing_fits : (c : Context) (around : Around) → Fits (in_branch c 0) (inside a_branch around) []
+nothing_fits : (c : Context) (around : Enclosing) → Fits (in_branch c 0) (inside a_branch around) []
 nothing_fits c around = (λ u. never u, λ u. never u, λ u. never (sym u))
 
 -- a function's body obeys the rules, in some place of the text
@@ -147,18 +147,18 @@ module _ (n : NamedProgram) (fs : List Function) where
           let t = block_number c.numbering (path_of_turn path) in
           (tt, ((((tt, as_statements (t ∷ p ∷ free) body h (t ∷ p ∷ a) i), as_statements (p ∷ free) more g (p ∷ a) i), as_statements (p ∷ free) next k (p ∷ a) i), tt))
 
-      in_loop_fits : (c : Context) (around : Around) (pos : Pos) (free : List ℕ) → Fits c around free → Fits (in_loop c pos) (inside a_loop around) (block_number c.numbering (path_of_turn (path_at c.path pos)) ∷ block_number c.numbering (path_at c.path pos) ∷ free)
+      in_loop_fits : (c : Context) (around : Enclosing) (pos : Pos) (free : List ℕ) → Fits c around free → Fits (in_loop c pos) (inside a_loop around) (block_number c.numbering (path_of_turn (path_at c.path pos)) ∷ block_number c.numbering (path_at c.path pos) ∷ free)
       in_loop_fits c around pos free h =
           let p = block_number c.numbering (path_at c.path pos) in
           let t = block_number c.numbering (path_of_turn (path_at c.path pos)) in
           (λ u. one_more t (p ∷ free) p (the_first p free), λ u. the_first t (p ∷ free), λ u. one_more t (p ∷ free) (block_number c.numbering c.returns) (one_more p free (block_number c.numbering c.returns) (h.2 u)))
 
-      in_case_fits : (c : Context) (around : Around) (pos : Pos) (free : List ℕ) → Fits c around free → Fits (in_case c pos) (inside a_case around) (block_number c.numbering (path_at c.path pos) ∷ free)
+      in_case_fits : (c : Context) (around : Enclosing) (pos : Pos) (free : List ℕ) → Fits c around free → Fits (in_case c pos) (inside a_case around) (block_number c.numbering (path_at c.path pos) ∷ free)
       in_case_fits c around pos free h =
           let p = block_number c.numbering (path_at c.path pos) in
           (λ u. the_first p free, λ u. one_more p free (block_number c.numbering c.continues) (h.1 u), λ u. one_more p free (block_number c.numbering c.returns) (h.2 u))
 
-      copies_leave : (b : tree.Branch) (c : Context) (scope : Scope) (name : List ℕ) (around : Around) (k : ℕ) (count index number : ℕ) → c.functions ≡ fs →
+      copies_leave : (b : tree.Branch) (c : Context) (scope : Scope) (name : List ℕ) (around : Enclosing) (k : ℕ) (count index number : ℕ) → c.functions ≡ fs →
           ((c : Context) (scope : Scope) → c.functions ≡ fs → AllLeaving [] (branch_copy copies b c scope).code) →
           PlacedBranches AnyBlock AnyInside (replicated (numbered_copy (branch_copy copies b) c scope name) (pos_of_branch b) scope count index number).branches
       copies_leave b c scope name around k zero index number e rec = tt
@@ -166,10 +166,10 @@ module _ (n : NamedProgram) (fs : List Function) where
           (as_statements [] _ (rec (in_branch c index) (with_name scope name (a_constant number)) e) [] [], copies_leave b c scope name around k count (index + 1) (number + 1) e rec)
 
       mutual
-        statement_leaves : (s : tree.Statement) (c : Context) (scope : Scope) (around : Around) (k : ℕ) (free : List ℕ) → c.functions ≡ fs → Fits c around free → AllIn IsFine (site.of_statement n around k s) → AllLeaving free (statement_copy copies s c scope).code
+        statement_leaves : (s : tree.Statement) (c : Context) (scope : Scope) (around : Enclosing) (k : ℕ) (free : List ℕ) → c.functions ≡ fs → Fits c around free → AllIn IsFine (site.of_statement n around k s) → AllLeaving free (statement_copy copies s c scope).code
         statement_leaves (tree.statement a pos close own) c scope around k free e h g = action_leaves a pos close c scope around k free e h g
 
-        action_leaves : (a : tree.Action) (pos close : Pos) (c : Context) (scope : Scope) (around : Around) (k : ℕ) (free : List ℕ) → c.functions ≡ fs → Fits c around free → AllIn IsFine (site.of_action n around k pos a) → AllLeaving free (action_copy copies a pos close c scope).code
+        action_leaves : (a : tree.Action) (pos close : Pos) (c : Context) (scope : Scope) (around : Enclosing) (k : ℕ) (free : List ℕ) → c.functions ≡ fs → Fits c around free → AllIn IsFine (site.of_action n around k pos a) → AllLeaving free (action_copy copies a pos close c scope).code
         action_leaves tree.empty pos close c scope around k free e h g = tt
         action_leaves (tree.block ss) pos close c scope around k free e h g = statements_leave ss c scope (inside a_block around) k free e h g
         action_leaves (tree.declare ds) pos close c scope around k free e h g = declarations_leave c ds scope e free
@@ -210,29 +210,29 @@ module _ (n : NamedProgram) (fs : List Function) where
         action_leaves (tree.transaction is_master ss) pos close c scope around k free e h g =
             (λ a i. as_statements [] _ (statements_leave ss c scope (inside a_transaction around) k [] e (λ u. never u, λ u. never u, λ u. never (sym u)) g.1) a _, tt)
 
-        maybe_leaves : (s : tree.Maybe) (c : Context) (scope : Scope) (around : Around) (k : ℕ) (free : List ℕ) → c.functions ≡ fs → Fits c around free → AllIn IsFine (site.of_maybe n around k s) → AllLeaving free (maybe_copy copies s c scope).code
+        maybe_leaves : (s : tree.Maybe) (c : Context) (scope : Scope) (around : Enclosing) (k : ℕ) (free : List ℕ) → c.functions ≡ fs → Fits c around free → AllIn IsFine (site.of_maybe n around k s) → AllLeaving free (maybe_copy copies s c scope).code
         maybe_leaves tree.absent c scope around k free e h g = tt
         maybe_leaves (tree.present s) c scope around k free e h g = statement_leaves s c scope around k free e h g
 
-        statements_leave : (ss : tree.Statements) (c : Context) (scope : Scope) (around : Around) (k : ℕ) (free : List ℕ) → c.functions ≡ fs → Fits c around free → AllIn IsFine (site.of_statements n around k ss) → AllLeaving free (statements_copy copies ss c scope).code
+        statements_leave : (ss : tree.Statements) (c : Context) (scope : Scope) (around : Enclosing) (k : ℕ) (free : List ℕ) → c.functions ≡ fs → Fits c around free → AllIn IsFine (site.of_statements n around k ss) → AllLeaving free (statements_copy copies ss c scope).code
         statements_leave tree.no_more c scope around k free e h g = tt
         statements_leave (tree.more s ss) c scope around k free e h g =
             let g1 = split IsFine (site.of_statement n around k s) _ g in
             both free (statement_copy copies s c scope).code _ (statement_leaves s c scope around k free e h g1.0) (statements_leave ss c _ around _ free e h g1.1)
 
         -- a branch leaves no block that it stands in
-        branch_leaves : (b : tree.Branch) (c : Context) (scope : Scope) (around : Around) (k : ℕ) → c.functions ≡ fs → AllIn IsFine (site.of_branch n around k b) → AllLeaving [] (branch_copy copies b c scope).code
+        branch_leaves : (b : tree.Branch) (c : Context) (scope : Scope) (around : Enclosing) (k : ℕ) → c.functions ≡ fs → AllIn IsFine (site.of_branch n around k b) → AllLeaving [] (branch_copy copies b c scope).code
         branch_leaves (tree.branch place s) c scope around k e g =
             let g1 = split IsFine (site.optional (site.of_branch_place n around k) place) _ g in
             statement_leaves s c scope (inside a_branch around) _ [] e (λ u. never u, λ u. never u, λ u. never (sym u)) g1.1
 
-        branches_leave : (bs : tree.Branches) (index : ℕ) (c : Context) (scope : Scope) (around : Around) (k : ℕ) → c.functions ≡ fs → AllIn IsFine (site.of_branches n around k bs) → PlacedBranches AnyBlock AnyInside (branches_copy copies bs index c scope).branches
+        branches_leave : (bs : tree.Branches) (index : ℕ) (c : Context) (scope : Scope) (around : Enclosing) (k : ℕ) → c.functions ≡ fs → AllIn IsFine (site.of_branches n around k bs) → PlacedBranches AnyBlock AnyInside (branches_copy copies bs index c scope).branches
         branches_leave tree.no_branch index c scope around k e g = tt
         branches_leave (tree.more_branches b bs) index c scope around k e g =
             let g1 = split IsFine (site.of_branch n around k b) _ g in
             (as_statements [] _ (branch_leaves b (in_branch c index) scope around k e g1.0) [] [], branches_leave bs (index + 1) c _ around _ e g1.1)
 
-        cases_leave : (cs : tree.Cases) (c : Context) (scope : Scope) (around : Around) (k : ℕ) (free : List ℕ) → c.functions ≡ fs → Fits c around free → AllIn IsFine (site.of_cases n around k cs) → (a i : List ℕ) →
+        cases_leave : (cs : tree.Cases) (c : Context) (scope : Scope) (around : Enclosing) (k : ℕ) (free : List ℕ) → c.functions ≡ fs → Fits c around free → AllIn IsFine (site.of_cases n around k cs) → (a i : List ℕ) →
             PlacedCases AnyBlock AnyInside a free i (cases_copy copies cs c scope).cases × PlacedDefault AnyBlock AnyInside a free i (cases_copy copies cs c scope).otherwise
         cases_leave tree.no_case c scope around k free e h g a i = (tt, tt)
         cases_leave (tree.more_cases (tree.case pos guard None ss) cs) c scope around k free e h g a i =
@@ -330,28 +330,28 @@ module _ (n : NamedProgram) (fs : List Function) where
       more_roots [] ys h g = g
       more_roots (x ∷ xs) ys h g = (h.0, more_roots xs ys h.1 g)
 
-      root_leaves : (main : Pos) (b : tree.Branch) (c : Context) (scope : Scope) (around : Around) (k : ℕ) → c.functions ≡ fs → AllIn IsFine (site.of_branch n around k b) → RootsLeave (roots.branch_root calls main b c scope).roots
+      root_leaves : (main : Pos) (b : tree.Branch) (c : Context) (scope : Scope) (around : Enclosing) (k : ℕ) → c.functions ≡ fs → AllIn IsFine (site.of_branch n around k b) → RootsLeave (roots.branch_root calls main b c scope).roots
       root_leaves main (tree.branch place s) c scope around k e g =
           (as_statements [] _ (branch_leaves calls (calls_leave depth) (tree.branch place s) (record c { core = Rattle.xc_kernel.specs.Ports.core_of scope place }) scope around k e g) [] [], tt)
 
-      branch_roots_leave : (main : Pos) (bs : tree.Branches) (index : ℕ) (c : Context) (scope : Scope) (around : Around) (k : ℕ) → c.functions ≡ fs → AllIn IsFine (site.of_branches n around k bs) → RootsLeave (roots.branch_roots calls main bs index c scope).roots
+      branch_roots_leave : (main : Pos) (bs : tree.Branches) (index : ℕ) (c : Context) (scope : Scope) (around : Enclosing) (k : ℕ) → c.functions ≡ fs → AllIn IsFine (site.of_branches n around k bs) → RootsLeave (roots.branch_roots calls main bs index c scope).roots
       branch_roots_leave main tree.no_branch index c scope around k e g = tt
       branch_roots_leave main (tree.more_branches b bs) index c scope around k e g =
           let g1 = split IsFine (site.of_branch n around k b) _ g in
           more_roots _ _ (root_leaves main b (in_branch c index) scope around k e g1.0) (branch_roots_leave main bs (index + 1) c _ around _ e g1.1)
 
-      numbered_roots_leave : (main : Pos) (b : tree.Branch) (name : List ℕ) (c : Context) (scope : Scope) (around : Around) (k count index number : ℕ) → c.functions ≡ fs → AllIn IsFine (site.of_branch n around k b) → RootsLeave (roots.numbered_roots calls main b name c scope count index number).roots
+      numbered_roots_leave : (main : Pos) (b : tree.Branch) (name : List ℕ) (c : Context) (scope : Scope) (around : Enclosing) (k count index number : ℕ) → c.functions ≡ fs → AllIn IsFine (site.of_branch n around k b) → RootsLeave (roots.numbered_roots calls main b name c scope count index number).roots
       numbered_roots_leave main b name c scope around k zero index number e g = tt
       numbered_roots_leave main b name c scope around k (suc count) index number e g =
           more_roots _ _ (root_leaves main b (in_branch c index) (with_name scope name (a_constant number)) around k e g) (numbered_roots_leave main b name c scope around k count (index + 1) (number + 1) e g)
 
-      action_roots_leave : (main : Pos) (a : tree.Action) (pos : Pos) (c : Context) (scope : Scope) (around : Around) (k : ℕ) → c.functions ≡ fs → AllIn IsFine (site.of_action n around k pos a) → RootsLeave (roots.action_roots calls main a c scope).roots
+      action_roots_leave : (main : Pos) (a : tree.Action) (pos : Pos) (c : Context) (scope : Scope) (around : Enclosing) (k : ℕ) → c.functions ≡ fs → AllIn IsFine (site.of_action n around k pos a) → RootsLeave (roots.action_roots calls main a c scope).roots
       action_roots_leave main (tree.par bs) pos c scope around k e g = branch_roots_leave main bs 0 c scope around k e g.1
       action_roots_leave main (tree.replicated first second third from until b) pos c scope around k e g = numbered_roots_leave main b first.text c scope around (k + 3) (until - from) 0 from e g.1.1
       action_roots_leave main (tree.declare ds) pos c scope around k e g = tt
       action_roots_leave main other pos c scope around k e g = tt
 
-      block_roots_leave : (main : Pos) (ss : tree.Statements) (c : Context) (scope : Scope) (around : Around) (k : ℕ) → c.functions ≡ fs → AllIn IsFine (site.of_statements n around k ss) → RootsLeave (roots.block_roots calls main ss c scope).roots
+      block_roots_leave : (main : Pos) (ss : tree.Statements) (c : Context) (scope : Scope) (around : Enclosing) (k : ℕ) → c.functions ≡ fs → AllIn IsFine (site.of_statements n around k ss) → RootsLeave (roots.block_roots calls main ss c scope).roots
       block_roots_leave main tree.no_more c scope around k e g = tt
       block_roots_leave main (tree.more (tree.statement a pos close own) ss) c scope around k e g =
           let g1 = split IsFine (site.of_action n around k pos a) _ g in

@@ -13,7 +13,7 @@ use Rattle.xc_wellformed.specs.Exits.{LeavesIn, AllLeaveIn, CasesLeaveIn, Defaul
 use Rattle.xc_wellformed.specs.Transfers.{TransactionsAreListed}
 use Rattle.xc_invariants.specs.Channels.{TransactionsListed}
 use Rattle.xc_invariants.specs.Every.{EveryResource, EveryExpression, EveryOperands, EveryPlace, EveryTarget, EverySomeTarget, EverySomeExpression, EveryCondition, EveryOutput, EveryInput, EveryStatement, EveryStatements, EveryCases, EveryDefault, EveryBranches}
-use Rattle.xc_invariants.specs.Placed.{IsFresh, AnyInside, PlacedStatement, PlacedStatements, PlacedCases, PlacedDefault, PlacedBranches, IsPlaced}
+use Rattle.xc_invariants.specs.Placed.{IsDistinct, AnyInside, PlacedStatement, PlacedStatements, PlacedCases, PlacedDefault, PlacedBranches, IsPlaced}
 use Rattle.xc_invariants.specs.Rules.{AnyThing, AnyPar}
 
 -- Numbers among others, whichever way they are looked up.
@@ -53,7 +53,7 @@ one_more k more few h n e = both_false (nat_eq n k) (is_among n few) (sym (turne
 
 -- Blocks.
 mutual
-  placed : (s : kernel.Statement) (more few free inside : List ℕ) → Fewer more few → LeavesIn more free s → PlacedStatement IsFresh AnyInside few free inside s
+  placed : (s : kernel.Statement) (more few free inside : List ℕ) → Fewer more few → LeavesIn more free s → PlacedStatement IsDistinct AnyInside few free inside s
   placed (kernel.set_zero v) more few free inside f h = tt
   placed (kernel.set p e) more few free inside f h = tt
   placed (kernel.output o) more few free inside f h = tt
@@ -66,28 +66,28 @@ mutual
   placed (kernel.par bs) more few free inside f h = (tt, branches_placed bs more h)
   placed (kernel.transaction c is_master a start close) more few free inside f h = all_placed a more few [] (c ∷ inside) f h
 
-  all_placed : (ss : kernel.Statements) (more few free inside : List ℕ) → Fewer more few → AllLeaveIn more free ss → PlacedStatements IsFresh AnyInside few free inside ss
+  all_placed : (ss : kernel.Statements) (more few free inside : List ℕ) → Fewer more few → AllLeaveIn more free ss → PlacedStatements IsDistinct AnyInside few free inside ss
   all_placed kernel.no_more more few free inside f h = tt
   all_placed (kernel.more s ss) more few free inside f h = (placed s more few free inside f h.0, all_placed ss more few free inside f h.1)
 
-  cases_placed : (cs : kernel.Cases) (more few free inside : List ℕ) → Fewer more few → CasesLeaveIn more free cs → PlacedCases IsFresh AnyInside few free inside cs
+  cases_placed : (cs : kernel.Cases) (more few free inside : List ℕ) → Fewer more few → CasesLeaveIn more free cs → PlacedCases IsDistinct AnyInside few free inside cs
   cases_placed kernel.no_case more few free inside f h = tt
   cases_placed (kernel.more_cases (kernel.case guard i a) cs) more few free inside f h = (all_placed a more few free inside f h.0, cases_placed cs more few free inside f h.1)
 
-  default_placed : (d : kernel.Default) (more few free inside : List ℕ) → Fewer more few → DefaultLeavesIn more free d → PlacedDefault IsFresh AnyInside few free inside d
+  default_placed : (d : kernel.Default) (more few free inside : List ℕ) → Fewer more few → DefaultLeavesIn more free d → PlacedDefault IsDistinct AnyInside few free inside d
   default_placed kernel.no_default more few free inside f h = tt
   default_placed (kernel.default a) more few free inside f h = all_placed a more few free inside f h
 
-  branches_placed : (bs : kernel.Branches) (more : List ℕ) → BranchesLeaveIn more bs → PlacedBranches IsFresh AnyInside bs
+  branches_placed : (bs : kernel.Branches) (more : List ℕ) → BranchesLeaveIn more bs → PlacedBranches IsDistinct AnyInside bs
   branches_placed kernel.no_branch more h = tt
   branches_placed (kernel.more_branches (kernel.branch a pos) bs) more h = (all_placed a more [] [] [] (λ n e. refl) h.0, branches_placed bs more h.1)
 
-roots_placed : (rs : List kernel.Root) → EachRootLeaves rs → PlacedBranches IsFresh AnyInside (branches_of rs)
+roots_placed : (rs : List kernel.Root) → EachRootLeaves rs → PlacedBranches IsDistinct AnyInside (branches_of rs)
 roots_placed [] h = tt
 roots_placed (r ∷ rs) h = (all_placed r.body [] [] [] [] (λ n e. refl) h.0, roots_placed rs h.1)
 
 -- the blocks of a well formed kernel are well placed, and each has another number than those around it
-pub fresh_blocks : (K : kernel.Kernel) → ExitsAreInside K → IsPlaced IsFresh AnyInside K
+pub fresh_blocks : (K : kernel.Kernel) → ExitsAreInside K → IsPlaced IsDistinct AnyInside K
 fresh_blocks K h = record { roots = roots_placed K.roots h }
 
 -- Transactions.

@@ -17,7 +17,7 @@ use Rattle.xc_tree.specs.Types.Calls.{given_by, given_form, arguments, fits, is_
 use Rattle.xc_tree.specs.Types.Rules.{has_number}
 use Rattle.xc_tree.specs.Types.Sites.{Site}
 use Rattle.xc_tree.specs.Types.Sites as site
-use Rattle.xc_tree.specs.Shapes.Around.{Around, in_transaction}
+use Rattle.xc_tree.specs.Shapes.Enclosing.{Enclosing, in_transaction}
 use Rattle.xc_tree.specs.Shapes.Rules.{is_channel_among}
 use Rattle.xc_kernel.specs.declared.kernel.Chan.{Chan}
 use Rattle.xc_kernel.specs.Plain as kernel
@@ -31,8 +31,8 @@ use Rattle.xc_kernel.specs.Context.{Context, word_at, in_branch, in_loop, in_cas
 use Rattle.xc_kernel.specs.Parameters.{index_test, passed, all_passed, by_element, form_by_reference, by_name}
 use Rattle.xc_kernel.specs.Calls.{CopiesCall, path_of_call, call_by, right_copy}
 use Rattle.xc_kernel.proofs.Used.{no_expression, no_target}
-use Rattle.xc_wellformed.specs.Stacks.{declared_at as meant_at, Frame, Stack, decl_by, found, after, IsFresh, Resolves}
-use Rattle.xc_wellformed.specs.Standing.{head_of}
+use Rattle.xc_wellformed.specs.Stacks.{declared_at as meant_at, Frame, Stack, decl_by, found, after, IsUndeclared, Resolves}
+use Rattle.xc_wellformed.specs.Denotes.{head_of}
 use Rattle.xc_wellformed.proofs.Places.{In}
 use Rattle.xc_wellformed.proofs.Spread.{in_left}
 use Rattle.xc_wellformed.proofs.Stacks.{quiet_split, quiet_argument}
@@ -81,7 +81,7 @@ text_same a b t e f = not_true (bytes_eq b t) (λ q. never ((bytes_eq-Decides a 
     same : (x y : List ℕ) → bytes_eq x y ≡ true → x ≡ y
     same x y q = (bytes_eq-Decides x y).0 q
 
-among_fresh : (f : Frame) (x : Decl) (t : List ℕ) → In x f → IsFresh t f → bytes_eq x.name.text t ≡ false
+among_fresh : (f : Frame) (x : Decl) (t : List ℕ) → In x f → IsUndeclared t f → bytes_eq x.name.text t ≡ false
 among_fresh [] x t a h = absurd a
 among_fresh (y ∷ f) x t (inl e) h = ap (λ (z : Decl). bytes_eq z.name.text t) (sym e) ∙ h.0
 among_fresh (y ∷ f) x t (inr a) h = among_fresh f x t a h.1
@@ -369,7 +369,7 @@ module _ (n : NamedProgram) (fs : List Function) (gs : Frame) where
       Called c.numbering ls (copies c scope f call.called.pos call.arguments).channels (copies c scope f call.called.pos call.arguments).code
 
   -- what the rules say of a call of what is meant
-  abbrev pub Facts : Around → ℕ → List tree.Argument → Option tree.Head → Type 0
+  abbrev pub Facts : Enclosing → ℕ → List tree.Argument → Option tree.Head → Type 0
   Facts around k args meant = (has_number meant (arguments n k (site.params_of meant) args) ≡ true) × (AllFit (arguments n k (site.params_of meant) args) × ((in_transaction around.holders && is_channel_among (arguments n k (site.params_of meant) args)) ≡ false))
 
   pub equal : (x y : ℕ) → nat_eq x y ≡ true → x ≡ y
@@ -380,7 +380,7 @@ module _ (n : NamedProgram) (fs : List Function) (gs : Frame) where
   as_many k qs (a ∷ args) = ap suc (as_many (past k (marks.of_argument a)) (rest_of qs) args)
 
   module _ (copies : CopiesCall) (speak : CallsSpeak copies) (mute : CallsSilent copies) (keep : CallsKeep copies) where
-    abbrev pub OnePart : List ℕ → Around → Stack → Numbering → Copy → Type 0
+    abbrev pub OnePart : List ℕ → Enclosing → Stack → Numbering → Copy → Type 0
     OnePart ks around st q copy = PartOf n fs q ks (in_transaction around.holders) [] st copy
 
     -- what a call makes is hidden
@@ -400,7 +400,7 @@ module _ (n : NamedProgram) (fs : List Function) (gs : Frame) where
       tidy = w.tidy;
     }
 
-    call_part : (c : Context) (scope : Scope) (st : Stack) (around : Around) (k : ℕ) (ks : List ℕ) (call : tree.Call) (o : Option Function) → function_named fs call.called.text ≡ o → Sits ks c scope st → Resolves n k st (marks.each marks.of_argument call.arguments) → is_some (option_map head_of o) ≡ true →
+    call_part : (c : Context) (scope : Scope) (st : Stack) (around : Enclosing) (k : ℕ) (ks : List ℕ) (call : tree.Call) (o : Option Function) → function_named fs call.called.text ≡ o → Sits ks c scope st → Resolves n k st (marks.each marks.of_argument call.arguments) → is_some (option_map head_of o) ≡ true →
         Facts around k call.arguments (option_map head_of o) → Room c.numbering ks (call_by copies c scope call.called.pos call.arguments o).channels → OnePart ks around st c.numbering (call_by copies c scope call.called.pos call.arguments o)
     call_part c scope st around k ks call None e s r there facts room = never there refl
     call_part c scope st around k ks call (Some f) e s r there facts room = by (in_transaction around.holders) refl
@@ -419,7 +419,7 @@ module _ (n : NamedProgram) (fs : List Function) (gs : Frame) where
             hidden_part c.numbering ks ks (in_transaction around.holders) st (copies c scope f call.called.pos call.arguments) (subst (Agrees n fs st) (sym (keep c scope f call.called.pos call.arguments)) s.agrees) (subst (Scoped c.numbering ks) (sym (keep c scope f call.called.pos call.arguments)) s.scoped) (mute c scope f call.called.pos call.arguments)
             (speak call f e c scope st k ks ks s r long facts.1.0 (all_known ks c scope st s (path_of_call c call.called.pos) f.head.params call.arguments) room) (λ d l. l) (λ t. never t i)
 
-    pub right_part : (c : Context) (scope : Scope) (st : Stack) (around : Around) (k : ℕ) (ks : List ℕ) (b : Bool) (r : tree.RightSide) → Sits ks c scope st → Resolves n k st (marks.of_right r) → AllIn IsFineHere (site.of_right n around k b r) → Room c.numbering ks (right_copy copies c scope r).channels → OnePart ks around st c.numbering (right_copy copies c scope r)
+    pub right_part : (c : Context) (scope : Scope) (st : Stack) (around : Enclosing) (k : ℕ) (ks : List ℕ) (b : Bool) (r : tree.RightSide) → Sits ks c scope st → Resolves n k st (marks.of_right r) → AllIn IsFineHere (site.of_right n around k b r) → Room c.numbering ks (right_copy copies c scope r).channels → OnePart ks around st c.numbering (right_copy copies c scope r)
     right_part c scope st around k ks b (tree.value e) s r g room = no_use n fs c.numbering ks (in_transaction around.holders) [] st scope [] s.agrees s.scoped refl (λ d. refl) tt
     right_part c scope st around k ks b (tree.result call) s r g room =
         let w = ap (function_of n) (meant n st k call.called.text r.0) in
@@ -432,7 +432,7 @@ module _ (n : NamedProgram) (fs : List Function) (gs : Frame) where
         (subst (λ (o : Option Function). Facts around (k + 1) call.arguments (option_map head_of o)) (sym e) facts) room
 
     -- a right side, and then a statement that uses no channel
-    pub then_part : (c : Context) (scope : Scope) (st : Stack) (around : Around) (k : ℕ) (ks : List ℕ) (b : Bool) (r : tree.RightSide) (code : List kernel.Statement) → Idle code → Sits ks c scope st → Resolves n k st (marks.of_right r) → AllIn IsFineHere (site.of_right n around k b r) → Room c.numbering ks ((right_copy copies c scope r).channels ++ []) →
+    pub then_part : (c : Context) (scope : Scope) (st : Stack) (around : Enclosing) (k : ℕ) (ks : List ℕ) (b : Bool) (r : tree.RightSide) (code : List kernel.Statement) → Idle code → Sits ks c scope st → Resolves n k st (marks.of_right r) → AllIn IsFineHere (site.of_right n around k b r) → Room c.numbering ks ((right_copy copies c scope r).channels ++ []) →
         OnePart ks around st c.numbering (joined (right_copy copies c scope r) (record (no_copy scope) { code = code }))
     then_part c scope st around k ks b r code idle s rs g room =
         let p = right_part c scope st around k ks b r s rs g (room_left c.numbering ks (right_copy copies c scope r).channels [] room) in

@@ -6,7 +6,7 @@ use Rattle.xc_tree.specs.declared.names.Decl.{Decl}
 use Rattle.xc_tree.specs.Types.Named.{NamedProgram, what_of, function_of}
 use Rattle.xc_tree.specs.Types.Entities.{is_channel}
 use Rattle.xc_tree.specs.Types.Sites.{Site}
-use Rattle.xc_tree.specs.Shapes.Around.{is_empty}
+use Rattle.xc_tree.specs.Shapes.Enclosing.{is_empty}
 use Rattle.xc_kernel.specs.declared.kernel.Chan.{Chan}
 use Rattle.xc_kernel.specs.Plain as kernel
 use Rattle.xc_kernel.specs.Things.{channel, by_resource, by_expression, by_statement, by_statements}
@@ -21,7 +21,7 @@ use Rattle.xc_kernel.specs.Transfers.{channel_of}
 use Rattle.xc_kernel.proofs.Used.{no_expression}
 use Rattle.xc_meaning.proofs.Basics.{or_left, or_right, or_cases}
 use Rattle.xc_wellformed.specs.Stacks.{Stack, decl_by, found, with_decl}
-use Rattle.xc_wellformed.specs.Standing.{head_of}
+use Rattle.xc_wellformed.specs.Denotes.{head_of}
 use Rattle.xc_wellformed.proofs.Places.{In}
 use Rattle.xc_wellformed.proofs.Spread.{in_left, in_right, weaker}
 use Rattle.xc_wellformed.proofs.Talks.{talks, talks_both}

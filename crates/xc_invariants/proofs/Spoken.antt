@@ -14,7 +14,7 @@ use Rattle.xc_tree.specs.Types.Named.{NamedProgram, past, what_at}
 use Rattle.xc_tree.specs.Types.Entities.{is_channel}
 use Rattle.xc_tree.specs.Types.Sites.{Site}
 use Rattle.xc_tree.specs.Types.Sites as site
-use Rattle.xc_tree.specs.Shapes.Around.{Around, a_block, an_if, a_loop, a_case, a_branch, a_transaction, inside, in_block_of, in_transaction, is_empty}
+use Rattle.xc_tree.specs.Shapes.Enclosing.{Enclosing, a_block, an_if, a_loop, a_case, a_branch, a_transaction, inside, in_block_of, in_transaction, is_empty}
 use Rattle.xc_kernel.specs.declared.kernel.Chan.{Chan}
 use Rattle.xc_kernel.specs.Plain as kernel
 use Rattle.xc_kernel.specs.Things.{channel, by_input, by_some_expression, by_branches, by_case, by_cases, by_default}
@@ -142,12 +142,12 @@ module _ (n : NamedProgram) (fs : List Function) (gs : Frame) where
   module _ (copies : CopiesCall) (speak : CallsSpeak n fs gs copies) (mute : CallsSilent copies) (keep : CallsKeep copies) where
     -- declarations
 
-    initial_part : (c : Context) (path : Path) (r : Option tree.RightSide) (scope : Scope) (st : Stack) (around : Around) (k : ℕ) (ks : List ℕ) → Sits n fs gs ks c scope st → Resolves n k st (marks.optional marks.of_right r) → AllIn IsFineHere (site.optional (site.of_right n around k true) r) →
+    initial_part : (c : Context) (path : Path) (r : Option tree.RightSide) (scope : Scope) (st : Stack) (around : Enclosing) (k : ℕ) (ks : List ℕ) → Sits n fs gs ks c scope st → Resolves n k st (marks.optional marks.of_right r) → AllIn IsFineHere (site.optional (site.of_right n around k true) r) →
         Room c.numbering ks (initial_copy copies c path r scope).channels → OnePart n fs gs copies speak mute keep ks around st c.numbering (initial_copy copies c path r scope)
     initial_part c path None scope st around k ks s r g room = let i = idle_zero (variable_number c.numbering path) in no_use n fs c.numbering ks (in_transaction around.holders) [] st scope (set_zero c path ∷ []) s.agrees s.scoped refl i.0 i.1
     initial_part c path (Some e) scope st around k ks s r g room = then_part n fs gs copies speak mute keep c scope st around k ks true e (set_word c path (value_of c scope e) ∷ []) (idle_set (word_at c path) (value_of c scope e)) s r g room
 
-    kind_part : (c : Context) (scope : Scope) (st : Stack) (around : Around) (k : ℕ) (ks : List ℕ) (name : Id) (kind : tree.Kind) → Sits n fs gs ks c scope st → Resolves n k st (marks.of_declaration (record { kind = kind; name = name })) → AllIn IsFineHere (site.of_kind n around (k + 1) kind) →
+    kind_part : (c : Context) (scope : Scope) (st : Stack) (around : Enclosing) (k : ℕ) (ks : List ℕ) (name : Id) (kind : tree.Kind) → Sits n fs gs ks c scope st → Resolves n k st (marks.of_declaration (record { kind = kind; name = name })) → AllIn IsFineHere (site.of_kind n around (k + 1) kind) →
         Room c.numbering ks (kind_copy copies c scope name.text name.pos kind).channels → OnePart n fs gs copies speak mute keep ks around (after st (marks.of_declaration (record { kind = kind; name = name }))) c.numbering (kind_copy copies c scope name.text name.pos kind)
     kind_part c scope st around k ks name (tree.word u r) s rs g room =
         let d : Decl = record { name = name; what = what.Word u } in
@@ -189,7 +189,7 @@ module _ (n : NamedProgram) (fs : List Function) (gs : Frame) where
         no_use n fs c.numbering ks (in_transaction around.holders) [] (with_decl d st) (with_name scope name.text (a_timer path)) [] (agrees_with n fs st scope d (a_timer path) (refl, refl) s.agrees)
         (scoped_with c.numbering ks scope name.text (a_timer path) (no_channel c.numbering ks (a_timer path) refl) s.scoped) refl (λ x. refl) tt
 
-    pub declarations_part : (ds : List tree.Declaration) (c : Context) (scope : Scope) (st : Stack) (around : Around) (k : ℕ) (ks : List ℕ) → Sits n fs gs ks c scope st → Resolves n k st (marks.each marks.of_declaration ds) → AllIn IsFineHere (site.of_declarations n around k ds) →
+    pub declarations_part : (ds : List tree.Declaration) (c : Context) (scope : Scope) (st : Stack) (around : Enclosing) (k : ℕ) (ks : List ℕ) → Sits n fs gs ks c scope st → Resolves n k st (marks.each marks.of_declaration ds) → AllIn IsFineHere (site.of_declarations n around k ds) →
         Room c.numbering ks (declarations_copy copies c ds scope).channels → OnePart n fs gs copies speak mute keep ks around (after st (marks.each marks.of_declaration ds)) c.numbering (declarations_copy copies c ds scope)
     declarations_part [] c scope st around k ks s r g room = no_use n fs c.numbering ks (in_transaction around.holders) [] st scope [] s.agrees s.scoped refl (λ x. refl) tt
     declarations_part (d ∷ ds) c scope st around k ks s r g room =
@@ -205,7 +205,7 @@ module _ (n : NamedProgram) (fs : List Function) (gs : Frame) where
 
     -- assignments and `return`
 
-    assign_part : (c : Context) (scope : Scope) (st : Stack) (around : Around) (k : ℕ) (ks : List ℕ) (to : tree.Expression) (symbol : ℕ) (pos : Pos) (r : tree.RightSide) (b : Bool) → Sits n fs gs ks c scope st → Resolves n k st (marks.of_expression to ++ marks.of_right r) → AllIn IsFineHere (site.of_lval n k to ++ site.of_right n around (past k (marks.of_expression to)) true r) →
+    assign_part : (c : Context) (scope : Scope) (st : Stack) (around : Enclosing) (k : ℕ) (ks : List ℕ) (to : tree.Expression) (symbol : ℕ) (pos : Pos) (r : tree.RightSide) (b : Bool) → Sits n fs gs ks c scope st → Resolves n k st (marks.of_expression to ++ marks.of_right r) → AllIn IsFineHere (site.of_lval n k to ++ site.of_right n around (past k (marks.of_expression to)) true r) →
         Room c.numbering ks (assign_by copies c scope to symbol pos r b).channels → OnePart n fs gs copies speak mute keep ks around st c.numbering (assign_by copies c scope to symbol pos r b)
     assign_part c scope st around k ks to symbol pos r true s rs g room =
         let r2 = quiet_split n k st (marks.of_expression to) (marks.of_right r) (quiet_expression to) rs in
@@ -218,7 +218,7 @@ module _ (n : NamedProgram) (fs : List Function) (gs : Frame) where
     leaving : (c : Context) (path : Path) → Idle (leave c path ∷ [])
     leaving c path = (λ d. refl, (tt, tt))
 
-    return_part : (c : Context) (scope : Scope) (st : Stack) (around : Around) (k : ℕ) (ks : List ℕ) (r : Option tree.RightSide) → Sits n fs gs ks c scope st → Resolves n k st (marks.optional marks.of_right r) → AllIn IsFineHere (site.optional (site.of_right n around k true) r) →
+    return_part : (c : Context) (scope : Scope) (st : Stack) (around : Enclosing) (k : ℕ) (ks : List ℕ) (r : Option tree.RightSide) → Sits n fs gs ks c scope st → Resolves n k st (marks.optional marks.of_right r) → AllIn IsFineHere (site.optional (site.of_right n around k true) r) →
         Room c.numbering ks (return_copy copies c scope r).channels → OnePart n fs gs copies speak mute keep ks around st c.numbering (return_copy copies c scope r)
     return_part c scope st around k ks None s rs g room = let i = leaving c c.returns in no_use n fs c.numbering ks (in_transaction around.holders) [] st scope (leave c c.returns ∷ []) s.agrees s.scoped refl i.0 i.1
     return_part c scope st around k ks (Some r) s rs g room =
@@ -282,7 +282,7 @@ module _ (n : NamedProgram) (fs : List Function) (gs : Frame) where
     }
 
     -- statements
-    abbrev pub PartAt : List ℕ → Around → List Site → Stack → Numbering → Copy → Type 0
+    abbrev pub PartAt : List ℕ → Enclosing → List Site → Stack → Numbering → Copy → Type 0
     PartAt ks around sites st q copy = PartOf n fs q ks (in_transaction around.holders) sites st copy
 
     numbered_part : (b : tree.Branch) (c : Context) (scope : Scope) (name : Id) (st : Stack) (ks : List ℕ) → Sits n fs gs ks c scope st → (count index at : ℕ) →
@@ -329,11 +329,11 @@ module _ (n : NamedProgram) (fs : List Function) (gs : Frame) where
     cases_end st (tree.more_cases a cs) = after_both st (marks.of_case a) (marks.of_cases cs) ∙ ap (λ (z : Stack). after z (marks.of_cases cs)) (case_ends st a) ∙ cases_end st cs
 
     mutual
-      pub statement_part : (t : tree.Statement) (c : Context) (scope : Scope) (st : Stack) (around : Around) (k : ℕ) (ks : List ℕ) → Sits n fs gs ks c scope st → Resolves n k st (marks.of_statement t) → AllIn IsFineHere (site.of_statement n around k t) → Shape t → Room c.numbering ks (statement_copy copies t c scope).channels →
+      pub statement_part : (t : tree.Statement) (c : Context) (scope : Scope) (st : Stack) (around : Enclosing) (k : ℕ) (ks : List ℕ) → Sits n fs gs ks c scope st → Resolves n k st (marks.of_statement t) → AllIn IsFineHere (site.of_statement n around k t) → Shape t → Room c.numbering ks (statement_copy copies t c scope).channels →
           PartAt ks around (site.of_statement n around k t) (after st (marks.of_statement t)) c.numbering (statement_copy copies t c scope)
       statement_part (tree.statement a pos close own) c scope st around k ks s r g x room = action_part a pos close c scope st around k ks s r g x room
 
-      action_part : (a : tree.Action) (pos close : Pos) (c : Context) (scope : Scope) (st : Stack) (around : Around) (k : ℕ) (ks : List ℕ) → Sits n fs gs ks c scope st → Resolves n k st (marks.of_action a) → AllIn IsFineHere (site.of_action n around k pos a) → ShapedAction IsProper IsProperLval Assigns AnyCall a → Room c.numbering ks (action_copy copies a pos close c scope).channels →
+      action_part : (a : tree.Action) (pos close : Pos) (c : Context) (scope : Scope) (st : Stack) (around : Enclosing) (k : ℕ) (ks : List ℕ) → Sits n fs gs ks c scope st → Resolves n k st (marks.of_action a) → AllIn IsFineHere (site.of_action n around k pos a) → ShapedAction IsProper IsProperLval Assigns AnyCall a → Room c.numbering ks (action_copy copies a pos close c scope).channels →
           PartAt ks around (site.of_action n around k pos a) (after st (marks.of_action a)) c.numbering (action_copy copies a pos close c scope)
       action_part tree.empty pos close c scope st around k ks s r g x room = no_use n fs c.numbering ks (in_transaction around.holders) [] st scope [] s.agrees s.scoped refl (λ d. refl) tt
       action_part (tree.block ss) pos close c scope st around k ks s r g x room =
@@ -492,12 +492,12 @@ module _ (n : NamedProgram) (fs : List Function) (gs : Frame) where
             tidy = ((tt, clean, p.tidy), tt);
           })
 
-      maybe_part : (t : tree.Maybe) (c : Context) (scope : Scope) (st : Stack) (around : Around) (k : ℕ) (ks : List ℕ) → Sits n fs gs ks c scope st → Resolves n k st (marks.of_maybe t) → AllIn IsFineHere (site.of_maybe n around k t) → ShapedMaybe IsProper IsProperLval Assigns AnyCall t → Room c.numbering ks (maybe_copy copies t c scope).channels →
+      maybe_part : (t : tree.Maybe) (c : Context) (scope : Scope) (st : Stack) (around : Enclosing) (k : ℕ) (ks : List ℕ) → Sits n fs gs ks c scope st → Resolves n k st (marks.of_maybe t) → AllIn IsFineHere (site.of_maybe n around k t) → ShapedMaybe IsProper IsProperLval Assigns AnyCall t → Room c.numbering ks (maybe_copy copies t c scope).channels →
           PartAt ks around (site.of_maybe n around k t) (after st (marks.of_maybe t)) c.numbering (maybe_copy copies t c scope)
       maybe_part tree.absent c scope st around k ks s r g x room = no_use n fs c.numbering ks (in_transaction around.holders) [] st scope [] s.agrees s.scoped refl (λ d. refl) tt
       maybe_part (tree.present t) c scope st around k ks s r g x room = statement_part t c scope st around k ks s r g x room
 
-      pub statements_part : (ss : tree.Statements) (c : Context) (scope : Scope) (st : Stack) (around : Around) (k : ℕ) (ks : List ℕ) → Sits n fs gs ks c scope st → Resolves n k st (marks.of_statements ss) → AllIn IsFineHere (site.of_statements n around k ss) → ShapedStatements IsProper IsProperLval Assigns AnyCall ss → Room c.numbering ks (statements_copy copies ss c scope).channels →
+      pub statements_part : (ss : tree.Statements) (c : Context) (scope : Scope) (st : Stack) (around : Enclosing) (k : ℕ) (ks : List ℕ) → Sits n fs gs ks c scope st → Resolves n k st (marks.of_statements ss) → AllIn IsFineHere (site.of_statements n around k ss) → ShapedStatements IsProper IsProperLval Assigns AnyCall ss → Room c.numbering ks (statements_copy copies ss c scope).channels →
           PartAt ks around (site.of_statements n around k ss) (after st (marks.of_statements ss)) c.numbering (statements_copy copies ss c scope)
       statements_part tree.no_more c scope st around k ks s r g x room = no_use n fs c.numbering ks (in_transaction around.holders) [] st scope [] s.agrees s.scoped refl (λ d. refl) tt
       statements_part (tree.more t ss) c scope st around k ks s r g x room =
@@ -513,7 +513,7 @@ module _ (n : NamedProgram) (fs : List Function) (gs : Frame) where
           at_stack n fs q _ _ (sym (after_both st (marks.of_statement t) (marks.of_statements ss)))
           (part_both n fs q ks (in_transaction around.holders) (site.of_statement n around k t) (site.of_statements n around k1 ss) su (after su (marks.of_statements ss)) ct cs room p v)
 
-      pub branch_part : (b : tree.Branch) (c : Context) (scope : Scope) (st : Stack) (around : Around) (k : ℕ) (ks : List ℕ) → in_transaction around.holders ≡ false → Sits n fs gs ks c scope st → Resolves n k st (marks.of_branch b) → AllIn IsFineHere (site.of_branch n around k b) → ShapedBranch IsProper IsProperLval Assigns AnyCall b → Room c.numbering ks (branch_copy copies b c scope).channels →
+      pub branch_part : (b : tree.Branch) (c : Context) (scope : Scope) (st : Stack) (around : Enclosing) (k : ℕ) (ks : List ℕ) → in_transaction around.holders ≡ false → Sits n fs gs ks c scope st → Resolves n k st (marks.of_branch b) → AllIn IsFineHere (site.of_branch n around k b) → ShapedBranch IsProper IsProperLval Assigns AnyCall b → Room c.numbering ks (branch_copy copies b c scope).channels →
           PartAt ks around [] (after st (marks.of_branch b)) c.numbering (branch_copy copies b c scope)
       branch_part (tree.branch place t) c scope st around k ks out s r g x room =
           let mp = marks.optional marks.of_place place in
@@ -523,7 +523,7 @@ module _ (n : NamedProgram) (fs : List Function) (gs : Frame) where
           at_stack n fs c.numbering _ _ (sym (quiet_skip st mp (marks.of_statement t) q))
           (resited n fs c.numbering [] (statement_part t c scope st (inside a_branch around) (past k mp) ks s r1.1 g1.1 x room) (λ e. never e refl))
 
-      branches_part : (bs : tree.Branches) (index : ℕ) (c : Context) (scope : Scope) (st : Stack) (around : Around) (k : ℕ) (ks : List ℕ) → in_transaction around.holders ≡ false → Sits n fs gs ks c scope st → Resolves n k st (marks.of_branches bs) → AllIn IsFineHere (site.of_branches n around k bs) → ShapedBranches IsProper IsProperLval Assigns AnyCall bs → Room c.numbering ks (branches_copy copies bs index c scope).made.channels →
+      branches_part : (bs : tree.Branches) (index : ℕ) (c : Context) (scope : Scope) (st : Stack) (around : Enclosing) (k : ℕ) (ks : List ℕ) → in_transaction around.holders ≡ false → Sits n fs gs ks c scope st → Resolves n k st (marks.of_branches bs) → AllIn IsFineHere (site.of_branches n around k bs) → ShapedBranches IsProper IsProperLval Assigns AnyCall bs → Room c.numbering ks (branches_copy copies bs index c scope).made.channels →
           Branches c.numbering ks (after st (marks.of_branches bs)) (branches_copy copies bs index c scope).made.channels (branches_copy copies bs index c scope).made.named (branches_copy copies bs index c scope).made.scope (branches_copy copies bs index c scope).branches
       branches_part tree.no_branch index c scope st around k ks out s r g x room = record { agrees = s.agrees; scoped = λ t p e. in_left (number c.numbering p) ks [] (s.scoped t p e); names = tt; used = λ d e. never e refl; tidy = tt }
       branches_part (tree.more_branches b bs) index c scope st around k ks out s r g x room =
@@ -547,7 +547,7 @@ module _ (n : NamedProgram) (fs : List Function) (gs : Frame) where
             tidy = (p.tidy, v.tidy);
           }
 
-      cases_part : (cs : tree.Cases) (c : Context) (scope : Scope) (st : Stack) (around : Around) (k : ℕ) (ks : List ℕ) → in_transaction around.holders ≡ false → Sits n fs gs ks c scope st → Resolves n k st (marks.of_cases cs) → AllIn IsFineHere (site.of_cases n around k cs) → ShapedCases IsProper IsProperLval Assigns AnyCall cs → Room c.numbering ks (cases_copy copies cs c scope).made.channels →
+      cases_part : (cs : tree.Cases) (c : Context) (scope : Scope) (st : Stack) (around : Enclosing) (k : ℕ) (ks : List ℕ) → in_transaction around.holders ≡ false → Sits n fs gs ks c scope st → Resolves n k st (marks.of_cases cs) → AllIn IsFineHere (site.of_cases n around k cs) → ShapedCases IsProper IsProperLval Assigns AnyCall cs → Room c.numbering ks (cases_copy copies cs c scope).made.channels →
           Cases c.numbering ks (cases_copy copies cs c scope).made.channels (cases_copy copies cs c scope).made.named (cases_copy copies cs c scope).cases (cases_copy copies cs c scope).otherwise
       cases_part tree.no_case c scope st around k ks out s r g x room = record { names = tt; used = λ d e. never e refl; tidy = tt; tidy_default = tt }
       cases_part (tree.more_cases (tree.case pos guard None ss) cs) c scope st around k ks out s r g x room =

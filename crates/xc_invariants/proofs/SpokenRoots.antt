@@ -11,7 +11,7 @@ use Rattle.xc_tree.specs.Names.Marks as marks
 use Rattle.xc_tree.specs.Types.Named.{NamedProgram, past}
 use Rattle.xc_tree.specs.Types.Calls.{arguments}
 use Rattle.xc_tree.specs.Types.Sites as site
-use Rattle.xc_tree.specs.Shapes.Around.{Around, in_block_of, in_transaction}
+use Rattle.xc_tree.specs.Shapes.Enclosing.{Enclosing, in_block_of, in_transaction}
 use Rattle.xc_tree.specs.Shapes.Main.{is_return_at_most, is_channels_par_return, are_channels, place_branches, places_branch, has_placed, is_placed, statements_in}
 use Rattle.xc_kernel.specs.declared.kernel.Chan.{Chan}
 use Rattle.xc_kernel.specs.Plain as kernel
@@ -126,7 +126,7 @@ module _ (n : NamedProgram) (fs : List Function) (gs : Frame) where
         scoped : Scoped q (ks ++ known) r.made.scope
         tidy : TidyRoots r.roots
 
-      root_part : (main : Pos) (b : tree.Branch) (c : Context) (scope : Scope) (st : Stack) (around : Around) (k : ℕ) (ks : List ℕ) → in_transaction around.holders ≡ false → Sits n fs gs ks c scope st → Resolves n k st (marks.of_branch b) → AllIn IsFineHere (site.of_branch n around k b) → ShapedBranch IsProper IsProperLval Assigns AnyCall b →
+      root_part : (main : Pos) (b : tree.Branch) (c : Context) (scope : Scope) (st : Stack) (around : Enclosing) (k : ℕ) (ks : List ℕ) → in_transaction around.holders ≡ false → Sits n fs gs ks c scope st → Resolves n k st (marks.of_branch b) → AllIn IsFineHere (site.of_branch n around k b) → ShapedBranch IsProper IsProperLval Assigns AnyCall b →
           Room c.numbering ks (roots.branch_root calls main b c scope).made.channels → Rooted c.numbering ks (after st (marks.of_branch b)) (roots.branch_root calls main b c scope)
       root_part main (tree.branch place t) c scope st around k ks out s r g x room =
           let d = record c { core = core_of scope place } in
@@ -143,7 +143,7 @@ module _ (n : NamedProgram) (fs : List Function) (gs : Frame) where
         tidy = more_roots a.roots b.roots r.tidy v.tidy;
       }
 
-      branch_roots_part : (main : Pos) (bs : tree.Branches) (index : ℕ) (c : Context) (scope : Scope) (st : Stack) (around : Around) (k : ℕ) (ks : List ℕ) → in_transaction around.holders ≡ false → Sits n fs gs ks c scope st → Resolves n k st (marks.of_branches bs) → AllIn IsFineHere (site.of_branches n around k bs) → ShapedBranches IsProper IsProperLval Assigns AnyCall bs →
+      branch_roots_part : (main : Pos) (bs : tree.Branches) (index : ℕ) (c : Context) (scope : Scope) (st : Stack) (around : Enclosing) (k : ℕ) (ks : List ℕ) → in_transaction around.holders ≡ false → Sits n fs gs ks c scope st → Resolves n k st (marks.of_branches bs) → AllIn IsFineHere (site.of_branches n around k bs) → ShapedBranches IsProper IsProperLval Assigns AnyCall bs →
           Room c.numbering ks (roots.branch_roots calls main bs index c scope).made.channels → Rooted c.numbering ks (after st (marks.of_branches bs)) (roots.branch_roots calls main bs index c scope)
       branch_roots_part main tree.no_branch index c scope st around k ks out s r g x room = record { agrees = s.agrees; known = []; known_made = λ d i. i; scoped = λ t p e. in_left (number c.numbering p) ks [] (s.scoped t p e); tidy = tt }
       branch_roots_part main (tree.more_branches b bs) index c scope st around k ks out s r g x room =
@@ -158,7 +158,7 @@ module _ (n : NamedProgram) (fs : List Function) (gs : Frame) where
           let w = then_roots q ks (after su (marks.of_branches bs)) a others su p v in
           record { agrees = subst (λ (z : Stack). Agrees n fs z others.made.scope) (sym (after_both st (marks.of_branch b) (marks.of_branches bs))) w.agrees; known = w.known; known_made = w.known_made; scoped = w.scoped; tidy = w.tidy }
 
-      numbered_roots_part : (main : Pos) (b : tree.Branch) (name : Id) (c : Context) (scope : Scope) (st : Stack) (around : Around) (k : ℕ) (ks : List ℕ) (count index at : ℕ) → in_transaction around.holders ≡ false → Sits n fs gs ks c scope st →
+      numbered_roots_part : (main : Pos) (b : tree.Branch) (name : Id) (c : Context) (scope : Scope) (st : Stack) (around : Enclosing) (k : ℕ) (ks : List ℕ) (count index at : ℕ) → in_transaction around.holders ≡ false → Sits n fs gs ks c scope st →
           Resolves n k (with_decl (record { name = name; what = what.Index }) ([] ∷ st)) (marks.of_branch b) → AllIn IsFineHere (site.of_branch n around k b) → ShapedBranch IsProper IsProperLval Assigns AnyCall b →
           Room c.numbering ks (roots.numbered_roots calls main b name.text c scope count index at).made.channels → TidyRoots (roots.numbered_roots calls main b name.text c scope count index at).roots
       numbered_roots_part main b name c scope st around k ks zero index at out s r g x room = tt
@@ -180,7 +180,7 @@ module _ (n : NamedProgram) (fs : List Function) (gs : Frame) where
       no_roots_behind main (tree.more (tree.statement (tree.return_with r) p close own) (tree.more t ss)) c scope e = never e refl
       no_roots_behind main (tree.more (tree.statement other p close own) ss) c scope e = never e refl
 
-      block_roots_part : (main : Pos) (ss : tree.Statements) (c : Context) (scope : Scope) (st : Stack) (around : Around) (k : ℕ) (ks : List ℕ) → is_channels_par_return ss ≡ true → in_transaction around.holders ≡ false → Sits n fs gs ks c scope st → Resolves n k st (marks.of_statements ss) → AllIn IsFineHere (site.of_statements n around k ss) →
+      block_roots_part : (main : Pos) (ss : tree.Statements) (c : Context) (scope : Scope) (st : Stack) (around : Enclosing) (k : ℕ) (ks : List ℕ) → is_channels_par_return ss ≡ true → in_transaction around.holders ≡ false → Sits n fs gs ks c scope st → Resolves n k st (marks.of_statements ss) → AllIn IsFineHere (site.of_statements n around k ss) →
           ShapedStatements IsProper IsProperLval Assigns AnyCall ss → Room c.numbering ks (roots.block_roots calls main ss c scope).made.channels → TidyRoots (roots.block_roots calls main ss c scope).roots
       block_roots_part main tree.no_more c scope st around k ks form out s r g x room = never form refl
       block_roots_part main (tree.more (tree.statement (tree.declare ds) p close own) ss) c scope st around k ks form out s r g x room =

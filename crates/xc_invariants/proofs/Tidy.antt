@@ -10,7 +10,7 @@ use Rattle.xc_meaning.proofs.Basics.{or_left, or_right, or_cases}
 use Rattle.xc_wellformed.specs.Exits.{ExitsAreInside}
 use Rattle.xc_invariants.specs.Every.{EveryStatement, EveryStatements, EveryCases, EveryDefault, EveryBranches}
 use Rattle.xc_invariants.specs.Rules.{AnyThing, AnyPar}
-use Rattle.xc_invariants.specs.Placed.{AnyInside, IsFresh, AreUnused, PlacedStatement, PlacedStatements, PlacedCases, PlacedDefault, PlacedBranches}
+use Rattle.xc_invariants.specs.Placed.{AnyInside, IsDistinct, AreUnused, PlacedStatement, PlacedStatements, PlacedCases, PlacedDefault, PlacedBranches}
 use Rattle.xc_invariants.specs.Lawful.{IsTidy}
 use Rattle.xc_invariants.specs.Tidy.{nested_use, nested_uses, SpeaksAlone, TransactionsAreTidy}
 use Rattle.xc_invariants.proofs.Formed.{fresh_blocks}
@@ -64,7 +64,7 @@ one_more d inside a e h c m =
     ⊎_elim (λ s. subst (λ (x : ℕ). nested_uses x a ≡ false) (sym (eqb-true c d s)) e) (λ k. unused_not_nested c a ((or_false (by_channel (channel c) d) (by_statements (channel c) a) (h c k)).1)) (or_cases (nat_eq c d) (is_among c inside) m)
 
 mutual
-  placed : (s : kernel.Statement) (around free inside : List ℕ) → Each inside (λ c. nested_use c s) → EveryStatement AnyThing AnyPar SpeaksAlone s → PlacedStatement IsFresh AnyInside around free inside s → PlacedStatement IsFresh AreUnused around free inside s
+  placed : (s : kernel.Statement) (around free inside : List ℕ) → Each inside (λ c. nested_use c s) → EveryStatement AnyThing AnyPar SpeaksAlone s → PlacedStatement IsDistinct AnyInside around free inside s → PlacedStatement IsDistinct AreUnused around free inside s
   placed (kernel.set_zero v) around free inside k t h = tt
   placed (kernel.set p e) around free inside k t h = tt
   placed (kernel.output o) around free inside k t h = tt
@@ -80,12 +80,12 @@ mutual
   placed (kernel.par bs) around free inside k t h = (record { unused = λ c m u. never u (k c m) }, branches_placed bs t.1 h.1)
   placed (kernel.transaction d is_master a start close) around free inside k t h = all_placed a around [] (d ∷ inside) (one_more d inside a t.1 k) t.2 h
 
-  all_placed : (ss : kernel.Statements) (around free inside : List ℕ) → Each inside (λ c. nested_uses c ss) → EveryStatements AnyThing AnyPar SpeaksAlone ss → PlacedStatements IsFresh AnyInside around free inside ss → PlacedStatements IsFresh AreUnused around free inside ss
+  all_placed : (ss : kernel.Statements) (around free inside : List ℕ) → Each inside (λ c. nested_uses c ss) → EveryStatements AnyThing AnyPar SpeaksAlone ss → PlacedStatements IsDistinct AnyInside around free inside ss → PlacedStatements IsDistinct AreUnused around free inside ss
   all_placed kernel.no_more around free inside k t h = tt
   all_placed (kernel.more s ss) around free inside k t h =
       (placed s around free inside (left inside (λ c. nested_use c s) (λ c. nested_uses c ss) k) t.0 h.0, all_placed ss around free inside (right inside (λ c. nested_use c s) (λ c. nested_uses c ss) k) t.1 h.1)
 
-  cases_placed : (cs : kernel.Cases) (around free inside : List ℕ) → Each inside (λ c. by_cases (channel c) cs) → EveryCases AnyThing AnyPar SpeaksAlone cs → PlacedCases IsFresh AnyInside around free inside cs → PlacedCases IsFresh AreUnused around free inside cs
+  cases_placed : (cs : kernel.Cases) (around free inside : List ℕ) → Each inside (λ c. by_cases (channel c) cs) → EveryCases AnyThing AnyPar SpeaksAlone cs → PlacedCases IsDistinct AnyInside around free inside cs → PlacedCases IsDistinct AreUnused around free inside cs
   cases_placed kernel.no_case around free inside k t h = tt
   cases_placed (kernel.more_cases (kernel.case guard i a) cs) around free inside k t h =
       (all_placed a around free inside (λ c m. unused_not_nested c a (body c (k c m))) t.0.2 h.0, cases_placed cs around free inside (λ c m. rest c (k c m)) t.1 h.1)
@@ -96,11 +96,11 @@ mutual
       rest : (c : ℕ) → by_cases (channel c) (kernel.more_cases (kernel.case guard i a) cs) ≡ false → by_cases (channel c) cs ≡ false
       rest c e = (or_false _ (by_cases (channel c) cs) e).1
 
-  default_placed : (d : kernel.Default) (around free inside : List ℕ) → Each inside (λ c. by_default (channel c) d) → EveryDefault AnyThing AnyPar SpeaksAlone d → PlacedDefault IsFresh AnyInside around free inside d → PlacedDefault IsFresh AreUnused around free inside d
+  default_placed : (d : kernel.Default) (around free inside : List ℕ) → Each inside (λ c. by_default (channel c) d) → EveryDefault AnyThing AnyPar SpeaksAlone d → PlacedDefault IsDistinct AnyInside around free inside d → PlacedDefault IsDistinct AreUnused around free inside d
   default_placed kernel.no_default around free inside k t h = tt
   default_placed (kernel.default a) around free inside k t h = all_placed a around free inside (λ c m. unused_not_nested c a (k c m)) t h
 
-  branches_placed : (bs : kernel.Branches) → EveryBranches AnyThing AnyPar SpeaksAlone bs → PlacedBranches IsFresh AnyInside bs → PlacedBranches IsFresh AreUnused bs
+  branches_placed : (bs : kernel.Branches) → EveryBranches AnyThing AnyPar SpeaksAlone bs → PlacedBranches IsDistinct AnyInside bs → PlacedBranches IsDistinct AreUnused bs
   branches_placed kernel.no_branch t h = tt
   branches_placed (kernel.more_branches (kernel.branch a pos) bs) t h = (all_placed a [] [] [] (λ c m. never m refl) t.0 h.0, branches_placed bs t.1 h.1)
 

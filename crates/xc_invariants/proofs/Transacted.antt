@@ -15,7 +15,7 @@ use Rattle.xc_tree.specs.Types.Named.{NamedProgram, function_of, past}
 use Rattle.xc_tree.specs.Types.Entities.{is_channel}
 use Rattle.xc_tree.specs.Types.Sites.{Site, sites}
 use Rattle.xc_tree.specs.Types.Sites as site
-use Rattle.xc_tree.specs.Shapes.Around.{in_transaction, is_main, is_empty}
+use Rattle.xc_tree.specs.Shapes.Enclosing.{in_transaction, is_main, is_empty}
 use Rattle.xc_tree.specs.Shapes.Rules.{rule_506, is_channel_among}
 use Rattle.xc_kernel.specs.declared.kernel.Chan.{Chan}
 use Rattle.xc_kernel.specs.declared.kernel.PortUse.{PortUse}
@@ -32,7 +32,7 @@ use Rattle.xc_kernel.proofs.Roots.{numbering_is_own}
 use Rattle.xc_meaning.proofs.Basics.{some_given, none_given}
 use Rattle.xc_wellformed.specs.Once.{NoneAt, PathsDiffer}
 use Rattle.xc_wellformed.specs.Stacks.{Frame, Stack, after, Resolves, outer}
-use Rattle.xc_wellformed.specs.Standing.{AnyPath, head_of, Stands, a_variable, whole_array, word_referred, element_referred, array_referred, the_channel, the_end, the_timer, the_port, port_given, the_index, the_function, none_there}
+use Rattle.xc_wellformed.specs.Denotes.{AnyPath, head_of, Denotes, a_variable, whole_array, word_referred, element_referred, array_referred, the_channel, the_end, the_timer, the_port, port_given, the_index, the_function, none_there}
 use Rattle.xc_wellformed.specs.Numbers.{IsListed as IsVariableListed}
 use Rattle.xc_wellformed.specs.Transfers.{GoesOut, ComesIn}
 use Rattle.xc_meaning.proofs.Recursion.Scopes as scopes
@@ -149,7 +149,7 @@ ports_free : (q : Numbering) (m : ℕ) (ps : List tree.Port) → Scoped q [] (sc
 ports_free q m [] = λ t p e. never (ap is_chan e) refl
 ports_free q m (p ∷ ps) = scoped_with q [] (scope_of_ports (m + 1) ps) p.name.text (a_port m) (no_channel q [] (a_port m) refl) (ports_free q (m + 1) ps)
 
-stands_agrees : (n : NamedProgram) (fs : List Function) (ps : List PortUse) (num : Numbering) (H J : Path → Type 0) (t : List ℕ) (w : Option What) (x : Entity) → Stands n fs ps num H J t w x →
+stands_agrees : (n : NamedProgram) (fs : List Function) (ps : List PortUse) (num : Numbering) (H J : Path → Type 0) (t : List ℕ) (w : Option What) (x : Entity) → Denotes n fs ps num H J t w x →
     (is_chan x ≡ is_channel w) × (is_some (function_of n w) ≡ true → function_of n w ≡ option_map head_of (function_named fs t))
 stands_agrees n fs ps num H J t _ _ (the_function h) = (refl, λ e. h)
 stands_agrees n fs ps num H J t _ _ (a_variable h) = (refl, λ e. never e refl)

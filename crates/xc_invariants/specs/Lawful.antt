@@ -32,7 +32,7 @@ use Rattle.xc_invariants.specs.Tree.{Above, IsWaiting, IsForest, Unrelated}
 use Rattle.xc_invariants.specs.Rules.{AnyThing, AnyPar, AnyTransaction, AllApart, AreApart, IsApart}
 use Rattle.xc_invariants.specs.Sided.{SidedAt, Differ, OtherSides, IsSided}
 use Rattle.xc_invariants.specs.Needs.{Budgeted, HasBudget, KeepsBudget, takes, taken_on, needed_on, AreOnce, IsIn, TakesOn, total_of, takes_at, RootCores}
-use Rattle.xc_invariants.specs.Placed.{AnyBlock, AnyInside, IsFresh, AreUnused, marks_of, ends_of, open_of, EndsWell, EachPlaced, EachAlone, IsPlaced}
+use Rattle.xc_invariants.specs.Placed.{AnyBlock, AnyInside, IsDistinct, AreUnused, marks_of, ends_of, open_of, EndsWell, EachPlaced, EachAlone, IsPlaced}
 use Rattle.xc_invariants.specs.Nested.{EachInside, EndIsBehind}
 use Rattle.xc_invariants.specs.Tidy.{nested_use, TransactionsAreTidy}
 use Rattle.xc_invariants.specs.Within.{inside_on, EachErredAlone, BeginsOrEnds}
@@ -85,10 +85,10 @@ LawsHold = (K : kernel.Kernel) (s : Stim) (ms : List Action) (x : World) → Obe
 
 -- Two more laws hold where no block has the number of one around it, and no `par` uses a channel of a transaction around it.
 pub record IsTidy (K : kernel.Kernel) : Type 0 where
-  pub placed : IsPlaced IsFresh AreUnused K
+  pub placed : IsPlaced IsDistinct AreUnused K
 
 pub record Tidy (x : World) : Type 0 where
-  pub placed : EachPlaced IsFresh AreUnused x.branches
+  pub placed : EachPlaced IsDistinct AreUnused x.branches
   pub alone : EachAlone x.branches
 
 abbrev pub TidyLawsHold : Type 0
@@ -113,17 +113,17 @@ InsideIsOwn =
     IsTrue (is_among c (ends_of b.items)) ⊎ (IsTrue (by_items (channel c) b.items) → ⊥)
 
 -- No block has the number of one around it, in what is left of each branch.
-pub record Fresh (x : World) : Type 0 where
-  pub placed : EachPlaced IsFresh AnyInside x.branches
+pub record BlocksAreDistinct (x : World) : Type 0 where
+  pub placed : EachPlaced IsDistinct AnyInside x.branches
 
 -- This is so in each state of a checked kernel's runs.
-abbrev pub FreshHolds : Type 0
-FreshHolds = (K : kernel.Kernel) (s : Stim) (ms : List Action) (x : World) → IsChecked K → kernel_run K s ms ≡ Some x → Fresh x
+abbrev pub BlocksAreDistinctHolds : Type 0
+BlocksAreDistinctHolds = (K : kernel.Kernel) (s : Stim) (ms : List Action) (x : World) → IsChecked K → kernel_run K s ms ≡ Some x → BlocksAreDistinct x
 
 -- So the mark of a block stands once among the items of a branch.
 abbrev pub MarksStandOnce : Type 0
 MarksStandOnce =
-    (x : World) → Fresh x → (n : ℕ) (b : Branch) → slice_get x.branches n ≡ Some b → b.mode ≡ runs →
+    (x : World) → BlocksAreDistinct x → (n : ℕ) (b : Branch) → slice_get x.branches n ≡ Some b → b.mode ≡ runs →
     (front rest : List Item) (k : ℕ) → b.items ≡ front ++ mark k ∷ rest → is_among k (marks_of rest) ≡ false
 
 -- In each state of a checked kernel's runs each branch that runs or waits stands in the transactions

@@ -19,8 +19,8 @@ abbrev pub AnyInside : List ℕ → kernel.Branches → Type 0
 AnyInside inside bs = Unit {0}
 
 -- or that the block has another number than those around it, and that the `par` uses none of these channels
-abbrev pub IsFresh : ℕ → List ℕ → Type 0
-IsFresh n around = is_among n around ≡ false
+abbrev pub IsDistinct : ℕ → List ℕ → Type 0
+IsDistinct n around = is_among n around ≡ false
 
 pub record AreUnused (inside : List ℕ) (bs : kernel.Branches) : Type 0 where
   pub unused : (c : ℕ) → IsTrue (is_among c inside) → IsTrue (by_branches (channel c) bs) → ⊥

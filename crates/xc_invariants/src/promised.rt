@@ -1,7 +1,7 @@
 //! The laws, as contracts of functions that do nothing.
 
 ghost use Rattle.xc_invariants.specs.TextFollows.{ExitsAreMet, TypedTextFollowsClosely};
-ghost use Rattle.xc_invariants.specs.Lawful.{AcceptedObey, AloneInside, BranchesFit, BranchesStay, BudgetsFit, BudgetsStay, BudgetsSuffice, CheckedListed, CheckedObey, CheckedSpeakAlone, CheckedTidy, CheckedTidyHolds, CopiesArePlaced, EachGoesOn, EachHasSide, EndLeavesNone, EndsAreBehind, EndsOnce, ErredAloneHolds, FootprintsShrink, FreshHolds, InsideAgrees, InsideHolds, InsideIsOwn, InsideStays, KernelsAreListed, LawsAreKept, LawsBegin, LawsHold, ListedHolds, MarksStandOnce, NestedOutside, NoneClash, OneOnEachSide, OthersAreLeft, PortsAreHere, ThreadsSuffice, TidyLawsHold, UnbrokenIsApart, UnbrokenIsSided, UsersAreInside};
+ghost use Rattle.xc_invariants.specs.Lawful.{AcceptedObey, AloneInside, BranchesFit, BranchesStay, BudgetsFit, BudgetsStay, BudgetsSuffice, CheckedListed, CheckedObey, CheckedSpeakAlone, CheckedTidy, CheckedTidyHolds, CopiesArePlaced, EachGoesOn, EachHasSide, EndLeavesNone, EndsAreBehind, EndsOnce, ErredAloneHolds, FootprintsShrink, BlocksAreDistinctHolds, InsideAgrees, InsideHolds, InsideIsOwn, InsideStays, KernelsAreListed, LawsAreKept, LawsBegin, LawsHold, ListedHolds, MarksStandOnce, NestedOutside, NoneClash, OneOnEachSide, OthersAreLeft, PortsAreHere, ThreadsSuffice, TidyLawsHold, UnbrokenIsApart, UnbrokenIsSided, UsersAreInside};
 
 /// The laws hold at the start of each kernel that obeys the rules, and each step keeps them.
 #[tactic(auto, using(crate::proofs::Always::laws_begin, crate::proofs::Always::laws_kept))]
@@ -37,7 +37,7 @@ pub fn each_has_side()
 /// In the runs of a checked kernel no block has the number of one around it, so the mark of a block stands once among the items of a
 /// branch.
 pub fn marks_stand_once()
-    ensures of_runs { FreshHolds }
+    ensures of_runs { BlocksAreDistinctHolds }
     ensures once { MarksStandOnce }
 {}
 

@@ -21,8 +21,8 @@ if_parts test a b = if_copy test a (b a.scope)
 -- Loops: in a block that `break` leaves, the loop; in it, the body in a block that `continue` leaves.
 
 -- the statements of a loop's turn: the body, and what else is done in each turn
-abbrev pub turn : Context → Path → List kernel.Statement → List kernel.Statement → kernel.Statements
-turn c path body rest = kernel.statements (block_at c (path_of_turn path) body ∷ rest)
+abbrev pub iteration : Context → Path → List kernel.Statement → List kernel.Statement → kernel.Statements
+iteration c path body rest = kernel.statements (block_at c (path_of_turn path) body ∷ rest)
 
 -- a loop of this path, with the copy of all that it holds
 abbrev pub loop_at : Context → Path → kernel.Expression → (body next : kernel.Statements) → Copy → Copy
@@ -35,7 +35,7 @@ loop_copy c pos test body next held = loop_at c (path_at c.path pos) test body n
 
 -- a test before each turn
 abbrev pub while_copy : Context → Pos → kernel.Expression → Copy → Copy
-while_copy c pos test body = loop_copy c pos test (turn c (path_at c.path pos) body.code []) kernel.no_more body
+while_copy c pos test body = loop_copy c pos test (iteration c (path_at c.path pos) body.code []) kernel.no_more body
 
 -- the block of this path is left where the test is 0
 abbrev pub leave_unless : Context → Path → kernel.Expression → kernel.Statement
@@ -46,7 +46,7 @@ leave_unless c path test = kernel.if_then test kernel.no_more (kernel.statements
 abbrev pub do_while_copy : Context → Pos → tree.Expression → Copy → Copy
 do_while_copy c pos test body =
     loop_copy c pos (kernel.number 1)
-    (turn c (path_at c.path pos) body.code (leave_unless c (path_at c.path pos) (expression c body.scope test) ∷ [])) kernel.no_more body
+    (iteration c (path_at c.path pos) body.code (leave_unless c (path_at c.path pos) (expression c body.scope test) ∷ [])) kernel.no_more body
 
 -- without a test a loop goes on for ever
 abbrev pub test_or_true : Option kernel.Expression → kernel.Expression
@@ -56,7 +56,7 @@ test_or_true (Some e) = e
 -- a `for` behind its beginning: its test, what follows each turn, and its body
 abbrev pub for_copy : Context → Pos → Scope → Option tree.Expression → Copy → Copy → Copy
 for_copy c pos scope test next body =
-    loop_copy c pos (test_or_true (maybe_expression c scope test)) (turn c (path_at c.path pos) body.code []) (code_of next) (joined next body)
+    loop_copy c pos (test_or_true (maybe_expression c scope test)) (iteration c (path_at c.path pos) body.code []) (code_of next) (joined next body)
 
 -- the same by how what follows each turn and the body are copied
 abbrev pub for_parts : Context → Pos → Option tree.Expression → (next body : Scope → Copy) → Scope → Copy

@@ -3,17 +3,17 @@ use Rattle.std.proofs.Common.{◌≡◌, ℕ, ◌+◌, ◌<◌, Bool, true, fals
 use Rattle.std.proofs.lemmas.List.{get_or-drop, get_or-take}
 use Rattle.xc_tree.specs.declared.lexing.Start.{Start}
 use Rattle.xc_tree.specs.declared.lexing.Start.TheVariants.{End, Blank, LineEnd, LineComment, BlockComment, Hash, Letter, Digit, Other}
-use Rattle.xc_tree.specs.Bytes.{byte, start_at, part, Span, Stands, is_blank, is_of_word, is_letter, is_digit}
+use Rattle.xc_tree.specs.Bytes.{byte, start_at, part, Span, HasBytesAt, is_blank, is_of_word, is_letter, is_digit}
 use Rattle.xc_tree.specs.Places.{pos_at}
 use Rattle.xc_tree.specs.HashLines.{Header, Include, Define, Ending, TailStep, TailStop, Tail, stop, step}
 use Rattle.xc_lexer.proofs.Spans.{span_one, closed_one, not_both}
 
 -- a byte of a row of bytes that stands at a place
-byte_of : (text w : List ℕ) (i k : ℕ) → Stands text i w → k < length w → byte text (i + k) ≡ get_or w k 256
+byte_of : (text w : List ℕ) (i k : ℕ) → HasBytesAt text i w → k < length w → byte text (i + k) ≡ get_or w k 256
 byte_of text w i k h l = sym (get_or-drop i text k 256) ∙ sym (get_or-take (length w) (drop i text) k 256 l) ∙ ap (λ x. get_or x k 256) h
 
 -- rows of bytes that differ at a byte don't stand at one place
-apart : (text v w : List ℕ) (i k : ℕ) → Stands text i v → Stands text i w → k < length v → k < length w → (get_or v k 256 ≡ get_or w k 256 → ⊥) → ⊥
+apart : (text v w : List ℕ) (i k : ℕ) → HasBytesAt text i v → HasBytesAt text i w → k < length v → k < length w → (get_or v k 256 ≡ get_or w k 256 → ⊥) → ⊥
 apart text v w i k a b l m n = n (sym (byte_of text v i k a l) ∙ byte_of text w i k b m)
 
 differ : (a b : ℕ) → (a < b) → a ≡ b → ⊥

@@ -32,7 +32,7 @@ pub type LexErr = Refusal;
 struct State<'a> {
     place: Place,
     /// Whether only blanks stand before in the line.
-    fresh: bool,
+    at_line_start: bool,
     names: Names<'a>,
 }
 
@@ -62,7 +62,7 @@ pub fn lex(alloc: Global, text: &[u8]) -> Result<List<Tok>, LexErr>
     let mut toks = List::new(alloc);
     let mut state = State {
         place: Place { at: 0, pos },
-        fresh: true,
+        at_line_start: true,
         names: Names::new(alloc),
     };
     'pieces: while state.place.at < text.len() {
@@ -87,11 +87,11 @@ fn step<'a>(
     ensures broken { IfErr result (λ e. IfBroken e (λ b. FirstOf text.now state.old b)) }
 {
     let at = state.place.at;
-    let fresh = state.fresh;
+    let at_line_start = state.at_line_start;
     match starts(text, at) {
         Start::End => unreachable!(),
         Start::Blank => {
-            go_on(text, state, at + 1, fresh);
+            go_on(text, state, at + 1, at_line_start);
             Ok(())
         }
         Start::LineEnd => {
@@ -112,18 +112,18 @@ fn step<'a>(
 }
 
 /// Goes on to a later place.
-fn go_on<'a>(text: &'a [u8], state: &mut State<'a>, end: usize, fresh: bool)
+fn go_on<'a>(text: &'a [u8], state: &mut State<'a>, end: usize, at_line_start: bool)
     requires place { IsPlace text.now state.old.place }
     requires end { state.old.place.at ≤ end }
     requires within { end ≤ length text.now }
     ensures is { state.new ≡ record {
       place = record { at = end; pos = pos_at text.now end };
-      fresh = fresh;
+      at_line_start = at_line_start;
       names = state.old.names;
     } }
 {
     state.place = state.place.further(text, end);
-    state.fresh = fresh;
+    state.at_line_start = at_line_start;
 }
 
 /// A rule that is broken at a place.
@@ -218,7 +218,7 @@ fn hash<'a>(text: &'a [u8], state: &mut State<'a>, toks: &mut List<Tok>) -> Resu
     ensures broken { IfErr result (λ e. IfBroken e (λ b. FirstOf text.now state.old b)) }
 {
     let place = state.place;
-    if !state.fresh {
+    if !state.at_line_start {
         return Err(broken(101, place.pos));
     }
     if let Some(end) = include_end(text, place.at) {
@@ -244,7 +244,7 @@ fn include_line<'a>(
 ) -> Result<(), LexErr>
     requires place { IsPlace text.now state.old.place }
     requires starts { start_at text.now state.old.place.at ≡ Hash }
-    requires fresh { state.old.fresh ≡ true }
+    requires at_line_start { state.old.at_line_start ≡ true }
     requires form { Include text.now state.old.place.at form_end }
     requires some { state.old.place.at < form_end }
     requires ending { TailIs text.now form_end ending }
@@ -270,7 +270,7 @@ fn define_line<'a>(
 ) -> Result<(), LexErr>
     requires place { IsPlace text.now state.old.place }
     requires starts { start_at text.now state.old.place.at ≡ Hash }
-    requires fresh { state.old.fresh ≡ true }
+    requires at_line_start { state.old.at_line_start ≡ true }
     requires form { DefineIs text.now state.old.place.at line }
     requires ending { TailIs text.now line.end ending }
     ensures went { OnOk result (Went text.now state.old toks.old state.new toks.new) }

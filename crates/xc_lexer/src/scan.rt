@@ -1,7 +1,7 @@
 ghost use Rattle.std.specs.Prelude.{◌≡◌, ℕ, ◌+◌, ◌^◌, ◌<◌, ◌≤◌, length, true, false, IfSome, IfNone};
 ghost use Rattle.xc_tree.specs.Bytes as spec;
 ghost use Rattle.xc_tree.specs.declared.lexing.Start.TheVariants.{End, LineComment, BlockComment, Letter, Digit};
-ghost use Rattle.xc_tree.specs.Bytes.{Span, ClosedAt, Unclosed, Stands, start_at, part};
+ghost use Rattle.xc_tree.specs.Bytes.{Span, ClosedAt, Unclosed, HasBytesAt, start_at, part};
 
 use xc_tree::Start;
 
@@ -179,9 +179,9 @@ pub fn starts(text: &[u8], at: usize) -> Start
 pub fn past(text: &[u8], at: usize, spelled: &[u8]) -> Option<usize>
     requires { 0 < length spelled.now }
     ensures some { IfSome result
-        (λ end. Stands text.now at spelled.now × (end ≡ at + length spelled.now)
+        (λ end. HasBytesAt text.now at spelled.now × (end ≡ at + length spelled.now)
         × (end ≤ length text.now)) }
-    ensures none { IfNone result (Stands text.now at spelled.now → ⊥) }
+    ensures none { IfNone result (HasBytesAt text.now at spelled.now → ⊥) }
 {
     if at > text.len() || text.len() - at < spelled.len() {
         return None;

@@ -35,9 +35,9 @@ fn expression(e: &Expr) -> Size
         Ex::Name(_) => Size::none(),
         Ex::Index(_, index) => expression(index),
         Ex::Un(_, operand) => expression(operand),
-        Ex::Bin(_, left, right) => expression(left).beside(expression(right)),
+        Ex::Bin(_, left, right) => expression(left).parallel(expression(right)),
         Ex::Cond(test, first, second) => {
-            expression(test).beside(expression(first).beside(expression(second)))
+            expression(test).parallel(expression(first).parallel(expression(second)))
         }
         Ex::Cast(_, operand) => expression(operand),
     };
@@ -64,7 +64,7 @@ fn arguments(args: &[Arg]) -> Size
 {
     let mut size = Size::none();
     for arg in args {
-        size = size.beside(expression(&arg.value));
+        size = size.parallel(expression(&arg.value));
     }
     size
 }
@@ -78,7 +78,7 @@ fn right_side<'a>(sizes: &Sizes<'a>, rhs: &'a Rhs) -> Size
 {
     match rhs {
         Rhs::Value(value) => expression(value),
-        Rhs::Call { name, pos: _, args } => arguments(args.as_slice()).beside(sizes.called(name)),
+        Rhs::Call { name, pos: _, args } => arguments(args.as_slice()).parallel(sizes.called(name)),
     }
 }
 
@@ -124,8 +124,8 @@ fn output(send: &Send) -> Size
     ensures nodes { result.nodes ≡ nodes.of_output send.now }
     ensures depth { result.depth ≡ depths.of_output send.now }
 {
-    let value = expression(&send.value).beside(timing(&send.stamp));
-    timing(&send.time).beside(value)
+    let value = expression(&send.value).parallel(timing(&send.stamp));
+    timing(&send.time).parallel(value)
 }
 
 #[tactic(auto, using(crate::proofs::Measures::measures))]
@@ -148,7 +148,7 @@ fn stored(dest: &Dest, stamp: &Option<Timed>) -> Size
     ensures nodes { result.nodes ≡ nodes.of_stored dest.now stamp.now }
     ensures depth { result.depth ≡ depths.of_stored dest.now stamp.now }
 {
-    target(dest).beside(timing(stamp))
+    target(dest).parallel(timing(stamp))
 }
 
 #[tactic(auto, using(crate::proofs::Measures::measures))]
@@ -158,7 +158,7 @@ fn input(head: &Head) -> Size
     ensures depth { result.depth ≡ depths.of_input head.now }
 {
     let stored = stored(&head.dest, &head.stamp);
-    timing(&head.time).beside(condition(&head.cond).beside(stored))
+    timing(&head.time).parallel(condition(&head.cond).parallel(stored))
 }
 
 #[tactic(auto, using(crate::proofs::Measures::measures))]
@@ -174,14 +174,14 @@ fn input_if_any(head: &Option<Head>) -> Size
 }
 
 #[tactic(auto, using(crate::proofs::Measures::measures))]
-fn place(place: &Option<At>) -> Size
+fn placement(placement: &Option<At>) -> Size
     ensures statements { result.statements ≡ up_to most_statements 0 }
-    ensures nodes { result.nodes ≡ nodes.of_place place.now }
-    ensures depth { result.depth ≡ depths.of_place place.now }
+    ensures nodes { result.nodes ≡ nodes.of_place placement.now }
+    ensures depth { result.depth ≡ depths.of_place placement.now }
 {
-    match place {
+    match placement {
         None => Size::none(),
-        Some(place) => expression(&place.value),
+        Some(placement) => expression(&placement.value),
     }
 }
 
@@ -217,7 +217,7 @@ fn declarations<'a>(sizes: &Sizes<'a>, declared: &'a [Declared]) -> Size
 {
     let mut size = Size::none();
     for d in declared {
-        size = size.beside(declaration(sizes, d));
+        size = size.parallel(declaration(sizes, d));
     }
     size
 }
@@ -244,21 +244,21 @@ fn action<'a>(sizes: &Sizes<'a>, kind: &'a St) -> Size
         St::Empty => Size::none(),
         St::Block(ss) => statements(sizes, ss.as_slice()),
         St::Decl(ds) => declarations(sizes, ds.as_slice()),
-        St::Assign(lval, _, _, rhs) => expression(lval).beside(right_side(sizes, rhs)).counted(1),
+        St::Assign(lval, _, _, rhs) => expression(lval).parallel(right_side(sizes, rhs)).counted(1),
         St::Step(lval, _) => expression(lval).counted(1),
         St::Do(rhs) => right_side(sizes, rhs),
         St::Output(send) => output(send).counted(1),
         St::Input(head) => input(head).counted(1),
         St::If(test, then, otherwise) => {
-            let bodies = statement(sizes, then).beside(statement_if_any(sizes, otherwise));
-            expression(test).beside(bodies).counted(1)
+            let bodies = statement(sizes, then).parallel(statement_if_any(sizes, otherwise));
+            expression(test).parallel(bodies).counted(1)
         }
-        St::While(test, body) => expression(test).beside(statement(sizes, body)).counted(1),
-        St::DoWhile(body, test) => statement(sizes, body).beside(expression(test)).counted(1),
+        St::While(test, body) => expression(test).parallel(statement(sizes, body)).counted(1),
+        St::DoWhile(body, test) => statement(sizes, body).parallel(expression(test)).counted(1),
         St::For(first, test, step, body) => {
-            let turn = statement_if_any(sizes, step).beside(statement(sizes, body));
-            let turns = expression_if_any(test).beside(turn);
-            statement_if_any(sizes, first).beside(turns).counted(1)
+            let turn = statement_if_any(sizes, step).parallel(statement(sizes, body));
+            let turns = expression_if_any(test).parallel(turn);
+            statement_if_any(sizes, first).parallel(turns).counted(1)
         }
         St::Return(rhs) => right_side_if_any(sizes, rhs).counted(1),
         St::Break => Size::none().counted(1),
@@ -302,7 +302,7 @@ fn statements<'a>(sizes: &Sizes<'a>, ss: &'a [Stmt]) -> Size
 {
     let mut size = Size::none();
     for s in ss {
-        size = size.beside(statement(sizes, s));
+        size = size.parallel(statement(sizes, s));
     }
     size
 }
@@ -314,7 +314,9 @@ fn branch<'a>(sizes: &Sizes<'a>, b: &'a Branch) -> Size
     ensures nodes { result.nodes ≡ nodes.of_branch sizes.now b.now }
     ensures depth { result.depth ≡ depths.of_branch sizes.now b.now }
 {
-    place(&b.place).beside(statement(sizes, &b.body)).counted(1)
+    placement(&b.place)
+        .parallel(statement(sizes, &b.body))
+        .counted(1)
 }
 
 #[cycle(statement)]
@@ -326,7 +328,7 @@ fn branches<'a>(sizes: &Sizes<'a>, bs: &'a [Branch]) -> Size
 {
     let mut size = Size::none();
     for b in bs {
-        size = size.beside(branch(sizes, b));
+        size = size.parallel(branch(sizes, b));
     }
     size
 }
@@ -338,8 +340,8 @@ fn case<'a>(sizes: &Sizes<'a>, c: &'a Case) -> Size
     ensures nodes { result.nodes ≡ nodes.of_case sizes.now c.now }
     ensures depth { result.depth ≡ depths.of_case sizes.now c.now }
 {
-    let body = input_if_any(&c.head).beside(statements(sizes, c.body.as_slice()));
-    expression_if_any(&c.guard).beside(body).counted(1)
+    let body = input_if_any(&c.head).parallel(statements(sizes, c.body.as_slice()));
+    expression_if_any(&c.guard).parallel(body).counted(1)
 }
 
 #[cycle(statement)]
@@ -351,7 +353,7 @@ fn cases<'a>(sizes: &Sizes<'a>, cs: &'a [Case]) -> Size
 {
     let mut size = Size::none();
     for c in cs {
-        size = size.beside(case(sizes, c));
+        size = size.parallel(case(sizes, c));
     }
     size
 }

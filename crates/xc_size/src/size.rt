@@ -32,7 +32,7 @@ impl Size {
 
     /// The size of this and another part.
     #[tactic(auto, unfolding(crate::specs::Sizes::up_to))]
-    pub fn beside(self, other: Size) -> Size
+    pub fn parallel(self, other: Size) -> Size
         ensures statements { result.statements
             ≡ up_to most_statements (self.statements + other.statements) }
         ensures nodes { result.nodes ≡ up_to most_nodes (self.nodes + other.nodes) }

@@ -8,7 +8,7 @@ use Rattle.xc_tree.specs.Plain as tree
 use Rattle.xc_tree.specs.Symbols as symbols
 use Rattle.xc_tree.specs.Tables as tables
 use Rattle.xc_tree.specs.Words as words
-use Rattle.xc_today.specs.Today.{later_words, AreOfToday, PortsAreOut, IsUnstamped}
+use Rattle.xc_today.specs.Today.{later_words, TokensAreSupported, PortsAreOut, IsUnstamped}
 
 -- Words.
 
@@ -22,37 +22,37 @@ tokens [] = []
 tokens (k ∷ ks) = record { kind = k; pos = record { line = 1; col = 1 } } ∷ tokens ks
 
 -- `select {`
-select_is_later : AreOfToday (tokens (Key words.select_word ∷ Sym symbols.brace ∷ [])) → ⊥
+select_is_later : TokensAreSupported (tokens (Key words.select_word ∷ Sym symbols.brace ∷ [])) → ⊥
 select_is_later h = h.0.1.1.1.0 refl
 
 -- `on tile`, in front of a branch
-placed_branch_is_later : AreOfToday (tokens (Key words.par_word ∷ Sym symbols.brace ∷ Key words.on_word ∷ Key words.tile_word ∷ [])) → ⊥
+placed_branch_is_later : TokensAreSupported (tokens (Key words.par_word ∷ Sym symbols.brace ∷ Key words.on_word ∷ Key words.tile_word ∷ [])) → ⊥
 placed_branch_is_later h = h.1.1.0.1.1.0 refl
 
 -- `par {`
-par_is_of_today : AreOfToday (tokens (Key words.par_word ∷ Sym symbols.brace ∷ []))
+par_is_of_today : TokensAreSupported (tokens (Key words.par_word ∷ Sym symbols.brace ∷ []))
 par_is_of_today = (
   (λ e. absurd (cc), (λ e. absurd (cc), (λ e. absurd (cc), (λ e. absurd (cc), (λ e. absurd (cc), (λ e. absurd (cc), tt)))))),
   (tt, tt),
 )
 
 -- `chan c ;`
-channel_is_of_today : AreOfToday (tokens (Key words.chan_word ∷ Name (codes "c") ∷ Sym symbols.semicolon ∷ []))
+channel_is_of_today : TokensAreSupported (tokens (Key words.chan_word ∷ Name (codes "c") ∷ Sym symbols.semicolon ∷ []))
 channel_is_of_today = (
   (λ e. absurd (cc), (λ e. absurd (cc), (λ e. absurd (cc), (λ e. absurd (cc), (λ e. absurd (cc), (λ e. absurd (cc), tt)))))),
   (tt, (tt, tt)),
 )
 
 -- `timer t ;`
-timer_is_later : AreOfToday (tokens (Key words.timer_word ∷ Name (codes "t") ∷ Sym symbols.semicolon ∷ [])) → ⊥
+timer_is_later : TokensAreSupported (tokens (Key words.timer_word ∷ Name (codes "t") ∷ Sym symbols.semicolon ∷ [])) → ⊥
 timer_is_later h = h.0.1.1.1.1.1.0 refl
 
 -- `c :>`
-input_is_of_today : AreOfToday (tokens (Name (codes "c") ∷ Sym symbols.receives ∷ []))
+input_is_of_today : TokensAreSupported (tokens (Name (codes "c") ∷ Sym symbols.receives ∷ []))
 input_is_of_today = (tt, (tt, tt))
 
 -- a name is no word
-name_is_of_today : AreOfToday (tokens (Name (codes "select") ∷ Num 15 false ∷ []))
+name_is_of_today : TokensAreSupported (tokens (Name (codes "select") ∷ Num 15 false ∷ []))
 name_is_of_today = (tt, (tt, tt))
 
 -- Ports.

@@ -17,15 +17,15 @@ IsNoneOf [] place = Unit {0}
 IsNoneOf (other ∷ rest) place = (place ≢ other) × IsNoneOf rest place
 
 -- a token that is no word of a later form
-abbrev pub IsOfToday : Kind → Type 0
-IsOfToday (Name text) = Unit {0}
-IsOfToday (Num value is_unsigned) = Unit {0}
-IsOfToday (Key place) = IsNoneOf later_words place
-IsOfToday (Sym place) = Unit {0}
+abbrev pub KindIsSupported : Kind → Type 0
+KindIsSupported (Name text) = Unit {0}
+KindIsSupported (Num value is_unsigned) = Unit {0}
+KindIsSupported (Key place) = IsNoneOf later_words place
+KindIsSupported (Sym place) = Unit {0}
 
-abbrev pub AreOfToday : List Tok → Type 0
-AreOfToday [] = Unit {0}
-AreOfToday (t ∷ ts) = IsOfToday t.kind × AreOfToday ts
+abbrev pub TokensAreSupported : List Tok → Type 0
+TokensAreSupported [] = Unit {0}
+TokensAreSupported (t ∷ ts) = KindIsSupported t.kind × TokensAreSupported ts
 
 -- whether a token is this word
 abbrev pub is_word : ℕ → Kind → Bool
@@ -92,9 +92,9 @@ AreItemsUnstamped [] = Unit {0}
 AreItemsUnstamped (item ∷ items) = IsItemUnstamped item × AreItemsUnstamped items
 
 -- These tokens, and the program that they are, are built today.
-pub record IsBuiltToday (toks : List Tok) (program : List tree.Item) : Type 0 where
+pub record IsSupported (toks : List Tok) (program : List tree.Item) : Type 0 where
   -- no word of a later form stands among the tokens: so an input comes from no timer, and as all ports are `out port`, from no port
-  pub words : AreOfToday toks
+  pub words : TokensAreSupported toks
   -- each port that is declared or is a parameter is an `out port`
   pub ports : PortsAreOut false toks
   -- no output has a stamp

@@ -8,4 +8,4 @@ mod stamps;
 mod today;
 mod tokens;
 
-pub use today::is_built_today;
+pub use today::is_supported;

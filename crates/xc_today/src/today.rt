@@ -2,16 +2,16 @@
 
 ghost use Rattle.std.specs.Prelude.{IsTrue, ◌↔◌};
 ghost use Rattle.xc_tree.specs.Trees.{program_of};
-ghost use Rattle.xc_today.specs.Today.{IsBuiltToday};
+ghost use Rattle.xc_today.specs.Today.{IsSupported};
 
 use crate::stamps::are_items_unstamped;
-use crate::tokens::{are_of_today, ports_are_out};
+use crate::tokens::{are_supported, ports_are_out};
 use xc_tree::{Tok, Tree};
 
 /// Whether tokens and their tree are built today: no word of a later form stands there, each port that is declared or is a parameter
 /// is an `out port`, and no output has a stamp.
-pub fn is_built_today(toks: &[Tok], tree: &Tree) -> bool
-    ensures { IsTrue result ↔ IsBuiltToday toks.now (program_of tree.now) }
+pub fn is_supported(toks: &[Tok], tree: &Tree) -> bool
+    ensures { IsTrue result ↔ IsSupported toks.now (program_of tree.now) }
 {
-    are_of_today(toks) && ports_are_out(toks) && are_items_unstamped(tree.items.as_slice())
+    are_supported(toks) && ports_are_out(toks) && are_items_unstamped(tree.items.as_slice())
 }

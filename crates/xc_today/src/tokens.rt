@@ -19,12 +19,12 @@ const LATER_WORDS: [u8; 6] = [
 ];
 
 /// Whether no word of a later form stands among tokens.
-pub fn are_of_today(toks: &[Tok]) -> bool
-    ensures { IsTrue result ↔ today.AreOfToday toks.now }
+pub fn are_supported(toks: &[Tok]) -> bool
+    ensures { IsTrue result ↔ today.TokensAreSupported toks.now }
 {
     let mut rest = toks;
     'each: while let [first, behind @ ..] = rest {
-        if !is_of_today(&first.kind) {
+        if !is_kind_supported(&first.kind) {
             return false;
         }
         rest = behind;
@@ -33,8 +33,8 @@ pub fn are_of_today(toks: &[Tok]) -> bool
 }
 
 /// Whether a token is no word of a later form.
-fn is_of_today(kind: &Kind) -> bool
-    ensures { IsTrue result ↔ today.IsOfToday kind.now }
+fn is_kind_supported(kind: &Kind) -> bool
+    ensures { IsTrue result ↔ today.KindIsSupported kind.now }
 {
     match kind {
         Kind::Name(_) => true,

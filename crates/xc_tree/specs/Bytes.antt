@@ -74,5 +74,5 @@ pub record Unclosed (text : List ℕ) (i : ℕ) : Type 0 where
   pub never : (k : ℕ) → i ≤ k → Closes text k → ⊥
 
 -- these bytes stand at a place
-abbrev pub Stands : List ℕ → ℕ → List ℕ → Type 0
-Stands text i w = take (length w) (drop i text) ≡ w
+abbrev pub HasBytesAt : List ℕ → ℕ → List ℕ → Type 0
+HasBytesAt text i w = take (length w) (drop i text) ≡ w

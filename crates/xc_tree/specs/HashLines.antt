@@ -2,14 +2,14 @@
 use Rattle.std.specs.Prelude.{◌≡◌, ℕ, ◌+◌, ◌<◌, true, List, length, None, codes, ◌⊎◌}
 use Rattle.xc_tree.specs.declared.lexing.Start.{Start}
 use Rattle.xc_tree.specs.declared.lexing.Start.TheVariants.{End, Blank, LineEnd, LineComment, BlockComment}
-use Rattle.xc_tree.specs.Bytes.{byte, start_at, part, Span, ClosedAt, Unclosed, Stands, is_of_word, is_blank, is_in_line, is_letter, is_digit}
+use Rattle.xc_tree.specs.Bytes.{byte, start_at, part, Span, ClosedAt, Unclosed, HasBytesAt, is_of_word, is_blank, is_in_line, is_letter, is_digit}
 use Rattle.xc_tree.specs.Places.{pos_at}
 use Rattle.xc_tree.specs.Tables.{words}
 use Rattle.xw_words.specs.Tables.{place_in}
 
 -- these bytes stand from i up to k
 abbrev pub StandsTo : List ℕ → List ℕ → ℕ → ℕ → Type 0
-StandsTo w text i k = Stands text i w × (k ≡ i + length w)
+StandsTo w text i k = HasBytesAt text i w × (k ≡ i + length w)
 
 -- one of the three headers stands from i up to k
 abbrev pub Header : List ℕ → ℕ → ℕ → Type 0
@@ -17,7 +17,7 @@ Header text i k = StandsTo (codes "<xs1.h>") text i k ⊎ StandsTo (codes "<plat
 
 -- a `#include` of one of the three headers stands from i up to k
 pub record Include (text : List ℕ) (i k : ℕ) : Type 0 where
-  pub opens : Stands text i (codes "#include")
+  pub opens : HasBytesAt text i (codes "#include")
   pub header_at : ℕ
   pub blanks : Span is_blank text (i + 8) header_at
   pub parted : i + 8 < header_at
@@ -25,7 +25,7 @@ pub record Include (text : List ℕ) (i k : ℕ) : Type 0 where
 
 -- a `#define` of this name, which is no word, stands from i up to k, with its number from m on
 pub record Define (text : List ℕ) (i : ℕ) (name : List ℕ) (m k : ℕ) : Type 0 where
-  pub opens : Stands text i (codes "#define")
+  pub opens : HasBytesAt text i (codes "#define")
   pub name_at : ℕ
   pub name_end : ℕ
   pub blanks : Span is_blank text (i + 7) name_at

@@ -9,7 +9,7 @@ use Rattle.xc_tree.specs.Least.{IsLeastOf}
 use Rattle.xc_tree.specs.Types.Named.{NamedProgram}
 use Rattle.xc_tree.specs.Types.Sites.{Site, sites}
 use Rattle.xc_tree.proofs.Leasts.{either, of_same, none_broken}
-use Rattle.xc_types.specs.Findings.{all_broken, broken_at, broken_of, first_among}
+use Rattle.xc_types.specs.Checker.{all_broken, broken_at, broken_of, first_among}
 use Rattle.xc_types.proofs.Firsts.{Itself, itself, first_from}
 
 -- it is one of these

@@ -7,7 +7,7 @@ use Rattle.xw_words.specs.declared.pos.Broken.{Broken}
 use Rattle.xc_tree.specs.Lexes.{IsBefore, IsNotAfter}
 use Rattle.xc_tree.specs.Least.{IsLeastOf, first_of}
 use Rattle.xc_tree.proofs.Leasts.{either, of_same, not_after_self}
-use Rattle.xc_types.specs.Findings.{first_among}
+use Rattle.xc_types.specs.Checker.{first_among}
 
 same_broken : (a b : Broken) → a.pos ≡ b.pos → a.rule ≡ b.rule → a ≡ b
 same_broken a b e f = λ i. record { rule = f i; pos = e i }

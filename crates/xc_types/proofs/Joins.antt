@@ -9,8 +9,8 @@ use Rattle.xc_tree.specs.Types.Named.{Name, past}
 use Rattle.xc_tree.specs.Types.Sites.{Site, types, type_of, communications, named_by}
 use Rattle.xc_tree.specs.Shapes.Rules.{channels, declared_as_channel}
 use Rattle.xc_tree.specs.Types.Entities.{is_channel}
-use Rattle.xc_types.specs.declared.findings.Findings.{Findings}
-use Rattle.xc_types.specs.Findings.{saw, all_broken, broken_of, first_among}
+use Rattle.xc_types.specs.declared.checker.Checker.{Checker}
+use Rattle.xc_types.specs.Checker.{saw, all_broken, broken_of, first_among}
 
 pub past_join : (k : ℕ) (a b : List Mark) → past k (a ++ b) ≡ past (past k a) b
 past_join k [] b = refl
@@ -42,18 +42,18 @@ pub first_join : (best : Option Broken) (a b : List Broken) → first_among best
 first_join best [] b = refl
 first_join best (x ∷ xs) b = first_join (first_of best (Option.Some x)) xs b
 
-pub one : (s : Findings) (n n2 : ℕ) (t t2 : List Bool) (b b2 : Option Broken) (c c2 : List ℕ) → n ≡ n2 → t ≡ t2 → b ≡ b2 → c ≡ c2 →
-    ◌≡◌ {A = Findings} (record s { names = n; types = t; best = b; channels = c }) (record s { names = n2; types = t2; best = b2; channels = c2 })
+pub one : (s : Checker) (n n2 : ℕ) (t t2 : List Bool) (b b2 : Option Broken) (c c2 : List ℕ) → n ≡ n2 → t ≡ t2 → b ≡ b2 → c ≡ c2 →
+    ◌≡◌ {A = Checker} (record s { names = n; types = t; best = b; channels = c }) (record s { names = n2; types = t2; best = b2; channels = c2 })
 one s n n2 t t2 b b2 c c2 e f g h = λ i. record s { names = e i; types = f i; best = g i; channels = h i }
 
-pub saw_join : (s : Findings) (a b : List Mark) (x y : List Site) → saw s (a ++ b) (x ++ y) ≡ saw (saw s a x) b y
+pub saw_join : (s : Checker) (a b : List Mark) (x y : List Site) → saw s (a ++ b) (x ++ y) ≡ saw (saw s a x) b y
 unfolding saw
 saw_join s a b x y = one s _ _ _ _ _ _ _ _ (past_join s.names a b) (rw types_join (sym (append_assoc s.types (types x) (types y)))) (rw broken_join (first_join s.best (all_broken x) (all_broken y))) (rw (communications_join, channels_join) (sym (append_assoc s.channels (channels (communications x)) (channels (communications y)))))
 
-pub saw_names : (s : Findings) (a : List Mark) (x : List Site) → (saw s a x).names ≡ past s.names a
+pub saw_names : (s : Checker) (a : List Mark) (x : List Site) → (saw s a x).names ≡ past s.names a
 unfolding saw
 saw_names s a x = refl
 
-pub saw_nothing : (s : Findings) → saw s [] [] ≡ s
+pub saw_nothing : (s : Checker) → saw s [] [] ≡ s
 unfolding saw
 saw_nothing s = one s _ _ _ _ _ _ _ _ refl (append-nil s.types) refl (append-nil s.channels)

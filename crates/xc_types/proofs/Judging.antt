@@ -15,7 +15,7 @@ use Rattle.xc_tree.specs.declared.names.What.{What}
 use Rattle.xc_tree.specs.Least.{first_of}
 use Rattle.xc_tree.specs.Names.Marks as marks
 use Rattle.xc_tree.specs.Plain as plain
-use Rattle.xc_tree.specs.Shapes.Around.{Around, in_transaction}
+use Rattle.xc_tree.specs.Shapes.Enclosing.{Enclosing, in_transaction}
 use Rattle.xc_tree.specs.Shapes.Rules.{is_channel_among}
 use Rattle.xc_tree.specs.Types.Calls.{Argument, arguments, first_of as kind_first, rest_of, fits, referred, is_channel_given, given_by}
 use Rattle.xc_tree.specs.Types.Named.{NamedProgram, Name, past, what_at, function_of}
@@ -24,9 +24,9 @@ use Rattle.xc_tree.specs.Types.Sites.{Site}
 use Rattle.xc_tree.specs.Types.Sites as site
 use Rattle.xc_tree.specs.Types.Words.{is_among}
 use Rattle.xc_types.specs.declared.judged.Judged.{Judged}
-use Rattle.xc_types.specs.declared.findings.Findings.{Findings}
+use Rattle.xc_types.specs.declared.checker.Checker.{Checker}
 use Rattle.xc_types.specs.Judged.{judged, judged_nothing, judged_with, with_last, has_number_of, kind_of, with_call}
-use Rattle.xc_types.specs.Findings.{saw, all_broken, first_among, first_with, broken_at, one_more_name, with_broken, with_first}
+use Rattle.xc_types.specs.Checker.{saw, all_broken, first_among, first_with, broken_at, one_more_name, with_broken, with_first}
 use Rattle.xc_types.proofs.Firsts.{first_from, others_first}
 use Rattle.xc_types.proofs.Joins.{one, first_join, saw_join, saw_names, saw_nothing}
 use Rattle.xc_types.proofs.Steps.{saw_call, names_more}
@@ -117,7 +117,7 @@ broken_by_call best t4 t5 t7 t6 p m g =
     ∙ first_step _ t6 506 p []))))
 
 -- a call, behind its arguments
-pub saw_call_site : (s : Findings) (ms : List Mark) (ss : List Site) (around : Around) (x : Name) (meant : Option plain.Head) (given : List Argument) (r : Bool) →
+pub saw_call_site : (s : Checker) (ms : List Mark) (ss : List Site) (around : Enclosing) (x : Name) (meant : Option plain.Head) (given : List Argument) (r : Bool) →
     saw s ms (site.call around x meant given r ∷ ss)
     ≡ with_broken (in_transaction around.holders && (judged judged_nothing given).has_channel) 506 x.id.pos
     (with_first (judged judged_nothing given).again
@@ -150,9 +150,9 @@ rest_at ps i = rw add-one (by ps i)
     by (p ∷ ps) zero = refl
     by (p ∷ ps) (suc i) = by ps i
 
-module _ (n : NamedProgram) (ps : List Param) (args : List Arg) (i : ℕ) (x : Arg) (e : x ≡ get_or args i x) (h : i < length args) (kind : Option ParamKind) (f : kind ≡ kind_of ps i) (s t : Findings) (g : t ≡ saw s (marks.of_expression (expression_of x.value)) (site.of_argument n s.names kind (expression_of x.value))) where
+module _ (n : NamedProgram) (ps : List Param) (args : List Arg) (i : ℕ) (x : Arg) (e : x ≡ get_or args i x) (h : i < length args) (kind : Option ParamKind) (f : kind ≡ kind_of ps i) (s t : Checker) (g : t ≡ saw s (marks.of_expression (expression_of x.value)) (site.of_argument n s.names kind (expression_of x.value))) where
   names_on : t.names ≡ past s.names (marks.of_expression (expression_of x.value))
-  names_on = ap (λ (z : Findings). z.names) g ∙ saw_names s (marks.of_expression (expression_of x.value)) (site.of_argument n s.names kind (expression_of x.value))
+  names_on = ap (λ (z : Checker). z.names) g ∙ saw_names s (marks.of_expression (expression_of x.value)) (site.of_argument n s.names kind (expression_of x.value))
 
   -- one argument further
   pub argument_seen : saw s (marks.each marks.of_argument (map argument_of (drop i args))) (site.of_arguments n s.names (drop i ps) (map argument_of (drop i args)))
@@ -167,7 +167,7 @@ module _ (n : NamedProgram) (ps : List Param) (args : List Arg) (i : ℕ) (x : A
   argument_judged j k d = rw (drop_item args i x e h, kind_at ps i, rest_at ps i, sym f, names_on, d) refl
 
 -- no argument is left
-pub argument_none : (n : NamedProgram) (ps : List Param) (args : List Arg) (i : ℕ) (s : Findings) → length args ≤ i
+pub argument_none : (n : NamedProgram) (ps : List Param) (args : List Arg) (i : ℕ) (s : Checker) → length args ≤ i
     → saw s (marks.each marks.of_argument (map argument_of (drop i args))) (site.of_arguments n s.names (drop i ps) (map argument_of (drop i args))) ≡ s
 argument_none n ps args i s h = rw (drop_all i args h) (saw_nothing s)
 
@@ -183,7 +183,7 @@ number_is : (n : NamedProgram) (k : ℕ) (ps : List Param) (args : List Arg) (me
 number_is n k ps args meant = number_of n k ps (map argument_of args) meant ∙ ap (has_number_of meant) (length-map args argument_of)
 
 -- behind a whole call, by what is found behind its parts
-pub whole_call : (n : NamedProgram) (s : Findings) (around : Around) (r : Bool) (i : Id) (args : List Arg) (called : Option FuncItem) (s1 s2 : Findings) (j : Judged)
+pub whole_call : (n : NamedProgram) (s : Checker) (around : Enclosing) (r : Bool) (i : Id) (args : List Arg) (called : Option FuncItem) (s1 s2 : Checker) (j : Judged)
     → option_map head_of called ≡ function_of n (what_at n (slice_get n.uses s.names))
     → s1 ≡ one_more_name s
     → s2 ≡ saw s1 (marks.each marks.of_argument (map argument_of args)) (site.of_arguments n s1.names (site.params_of (option_map head_of called)) (map argument_of args))

@@ -12,8 +12,8 @@ use Rattle.xc_tree.specs.Types.Rules.{broken_where}
 use Rattle.xc_tree.specs.Types.Sites.{Site}
 use Rattle.xc_tree.specs.Types.Sites as site
 use Rattle.xc_tree.proofs.Forms.{forms, expression-Expr, form-Num, form-Name, form-Index, form-Un, form-Bin, form-Cond, form-Cast}
-use Rattle.xc_types.specs.declared.findings.Findings.{Findings}
-use Rattle.xc_types.specs.Findings.{saw, all_broken, first_among, first_with, broken_at, one_more_name, with_type, with_type_at, with_broken}
+use Rattle.xc_types.specs.declared.checker.Checker.{Checker}
+use Rattle.xc_types.specs.Checker.{saw, all_broken, first_among, first_with, broken_at, one_more_name, with_type, with_type_at, with_broken}
 use Rattle.xc_types.proofs.Joins.{one, saw_join, saw_names, saw_nothing}
 
 -- what is broken at a site, where the other rules that the site may break are these
@@ -22,52 +22,52 @@ pub first_here : (best : Option Broken) (t : Bool) (n : ℕ) (p : Pos) (others r
 first_here best true n p others rest = refl
 first_here best false n p others rest = refl
 
-pub saw_use : (s : Findings) (i : Id) (ms : List Mark) (ss : List Site) → saw s (Uses i ∷ ms) ss ≡ saw (one_more_name s) ms ss
+pub saw_use : (s : Checker) (i : Id) (ms : List Mark) (ss : List Site) → saw s (Uses i ∷ ms) ss ≡ saw (one_more_name s) ms ss
 unfolding saw one_more_name
 saw_use s i ms ss = refl
 
-pub saw_call : (s : Findings) (i : Id) (ms : List Mark) (ss : List Site) → saw s (Calls i ∷ ms) ss ≡ saw (one_more_name s) ms ss
+pub saw_call : (s : Checker) (i : Id) (ms : List Mark) (ss : List Site) → saw s (Calls i ∷ ms) ss ≡ saw (one_more_name s) ms ss
 unfolding saw one_more_name
 saw_call s i ms ss = refl
 
-pub saw_declaration : (s : Findings) (d : Decl) (ms : List Mark) (ss : List Site) → saw s (Declares d ∷ ms) ss ≡ saw (one_more_name s) ms ss
+pub saw_declaration : (s : Checker) (d : Decl) (ms : List Mark) (ss : List Site) → saw s (Declares d ∷ ms) ss ≡ saw (one_more_name s) ms ss
 unfolding saw one_more_name
 saw_declaration s d ms ss = refl
 
-pub saw_node : (s : Findings) (u : Bool) (ms : List Mark) (ss : List Site) → saw s ms (site.node u ∷ ss) ≡ saw (with_type u s) ms ss
+pub saw_node : (s : Checker) (u : Bool) (ms : List Mark) (ss : List Site) → saw s ms (site.node u ∷ ss) ≡ saw (with_type u s) ms ss
 unfolding saw with_type
 saw_node s u ms ss = one s _ _ _ _ _ _ _ _ refl (sym (append_assoc s.types (u ∷ []) (site.types ss))) refl refl
 
-pub saw_word : (s : Findings) (x : Name) (ms : List Mark) (ss : List Site) → saw s ms (site.word x ∷ ss) ≡ saw (with_broken (not (is_word x.what)) 401 x.id.pos s) ms ss
+pub saw_word : (s : Checker) (x : Name) (ms : List Mark) (ss : List Site) → saw s ms (site.word x ∷ ss) ≡ saw (with_broken (not (is_word x.what)) 401 x.id.pos s) ms ss
 unfolding saw with_broken
 saw_word s x ms ss = one s _ _ _ _ _ _ _ _ refl refl (first_here s.best (not (is_word x.what)) 401 x.id.pos [] (all_broken ss)) refl
 
-pub saw_lval : (s : Findings) (x : Name) (ms : List Mark) (ss : List Site) → saw s ms (site.lval x ∷ ss) ≡ saw (with_broken (is_index x.what) 412 x.id.pos (with_broken (not (is_word x.what)) 403 x.id.pos s)) ms ss
+pub saw_lval : (s : Checker) (x : Name) (ms : List Mark) (ss : List Site) → saw s ms (site.lval x ∷ ss) ≡ saw (with_broken (is_index x.what) 412 x.id.pos (with_broken (not (is_word x.what)) 403 x.id.pos s)) ms ss
 unfolding saw with_broken
 saw_lval s x ms ss =
     one s _ _ _ _ _ _ _ _ refl refl (first_here s.best (not (is_word x.what)) 403 x.id.pos (map (broken_at 412) (broken_where (is_index x.what) x.id.pos) ++ []) (all_broken ss) ∙ first_here (first_with (not (is_word x.what)) 403 x.id.pos s.best) (is_index x.what) 412 x.id.pos [] (all_broken ss)) refl
 
-pub saw_length : (s : Findings) (l : ℕ) (p : Pos) (ms : List Mark) (ss : List Site) → saw s ms (site.array_length l p ∷ ss) ≡ saw (with_broken (not (nat_le 1 l && nat_le l 16384)) 409 p s) ms ss
+pub saw_length : (s : Checker) (l : ℕ) (p : Pos) (ms : List Mark) (ss : List Site) → saw s ms (site.array_length l p ∷ ss) ≡ saw (with_broken (not (nat_le 1 l && nat_le l 16384)) 409 p s) ms ss
 unfolding saw with_broken
 saw_length s l p ms ss = one s _ _ _ _ _ _ _ _ refl refl (first_here s.best (not (nat_le 1 l && nat_le l 16384)) 409 p [] (all_broken ss)) refl
 
-pub saw_indexed : (s : Findings) (x : Name) (ms : List Mark) (ss : List Site) → saw s ms (site.indexed x ∷ ss) ≡ saw (with_broken (not (is_array x.what)) 402 x.id.pos s) ms ss
+pub saw_indexed : (s : Checker) (x : Name) (ms : List Mark) (ss : List Site) → saw s ms (site.indexed x ∷ ss) ≡ saw (with_broken (not (is_array x.what)) 402 x.id.pos s) ms ss
 unfolding saw with_broken
 saw_indexed s x ms ss = one s _ _ _ _ _ _ _ _ refl refl (first_here s.best (not (is_array x.what)) 402 x.id.pos [] (all_broken ss)) refl
 
-pub names_more : (s : Findings) → (one_more_name s).names ≡ s.names + 1
+pub names_more : (s : Checker) → (one_more_name s).names ≡ s.names + 1
 unfolding one_more_name
 names_more s = refl
 
-pub names_typed : (u : Bool) (s : Findings) → (with_type u s).names ≡ s.names
+pub names_typed : (u : Bool) (s : Checker) → (with_type u s).names ≡ s.names
 unfolding with_type
 names_typed u s = refl
 
-pub names_set : (i : ℕ) (u : Bool) (s : Findings) → (with_type_at i u s).names ≡ s.names
+pub names_set : (i : ℕ) (u : Bool) (s : Checker) → (with_type_at i u s).names ≡ s.names
 unfolding with_type_at
 names_set i u s = refl
 
-pub names_broken : (t : Bool) (n : ℕ) (p : Pos) (s : Findings) → (with_broken t n p s).names ≡ s.names
+pub names_broken : (t : Bool) (n : ℕ) (p : Pos) (s : Checker) → (with_broken t n p s).names ≡ s.names
 unfolding with_broken
 names_broken t n p s = refl
 
@@ -76,21 +76,21 @@ set_seam [] ys u v = refl
 set_seam (x ∷ xs) ys u v = ap (λ zs. x ∷ zs) (set_seam xs ys u v)
 
 -- the type of a node is set behind what stands in it
-pub saw_set : (s : Findings) (i : ℕ) (u v : Bool) (ms : List Mark) (ss : List Site) → i ≡ length s.types → with_type_at i u (saw (with_type v s) ms ss) ≡ saw (with_type u s) ms ss
+pub saw_set : (s : Checker) (i : ℕ) (u v : Bool) (ms : List Mark) (ss : List Site) → i ≡ length s.types → with_type_at i u (saw (with_type v s) ms ss) ≡ saw (with_type u s) ms ss
 unfolding saw with_type with_type_at
 saw_set s i u v ms ss e = rw e (one s _ _ _ _ _ _ _ _ refl (set_seam s.types (site.types ss) u v) refl refl)
 
 -- the same behind two parts of it
-pub saw_set_twice : (s : Findings) (i : ℕ) (u v : Bool) (a b : List Mark) (x y : List Site) → i ≡ length s.types → with_type_at i u (saw (saw (with_type v s) a x) b y) ≡ saw (saw (with_type u s) a x) b y
+pub saw_set_twice : (s : Checker) (i : ℕ) (u v : Bool) (a b : List Mark) (x y : List Site) → i ≡ length s.types → with_type_at i u (saw (saw (with_type v s) a x) b y) ≡ saw (saw (with_type u s) a x) b y
 saw_set_twice s i u v a b x y e =
     ap (with_type_at i u) (sym (saw_join (with_type v s) a b x y)) ∙ saw_set s i u v (a ++ b) (x ++ y) e ∙ saw_join (with_type u s) a b x y
 
-pub types_grow : (s : Findings) (u : Bool) (i : ℕ) (ms : List Mark) (ss : List Site) → i ≡ length s.types → i + 1 ≤ length (saw (with_type u s) ms ss).types
+pub types_grow : (s : Checker) (u : Bool) (i : ℕ) (ms : List Mark) (ss : List Site) → i ≡ length s.types → i + 1 ≤ length (saw (with_type u s) ms ss).types
 unfolding saw with_type
 types_grow s u i ms ss e = rw (length-append (s.types ++ u ∷ []) (site.types ss), length-append s.types (u ∷ [])) (omega arith)
 
-pub types_grow_twice : (s : Findings) (u : Bool) (i : ℕ) (a b : List Mark) (x y : List Site) → i ≡ length s.types → i + 1 ≤ length (saw (saw (with_type u s) a x) b y).types
-types_grow_twice s u i a b x y e = subst (λ (found : Findings). i + 1 ≤ length found.types) (saw_join (with_type u s) a b x y) (types_grow s u i (a ++ b) (x ++ y) e)
+pub types_grow_twice : (s : Checker) (u : Bool) (i : ℕ) (a b : List Mark) (x y : List Site) → i ≡ length s.types → i + 1 ≤ length (saw (saw (with_type u s) a x) b y).types
+types_grow_twice s u i a b x y e = subst (λ (found : Checker). i + 1 ≤ length found.types) (saw_join (with_type u s) a b x y) (types_grow s u i (a ++ b) (x ++ y) e)
 
 -- what expressions stand for
 pub ruleset expressions = (expression-Expr, form-Num, form-Name, form-Index, form-Un, form-Bin, form-Cond, form-Cast)

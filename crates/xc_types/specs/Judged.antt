@@ -8,14 +8,14 @@ use Rattle.xc_tree.specs.declared.tree.ParamKind.{ParamKind}
 use Rattle.xc_tree.specs.Plain as plain
 use Rattle.xc_tree.specs.Types.Calls.{Argument, fits, referred, is_channel_given}
 use Rattle.xc_tree.specs.Types.Rules.{is_one_of, gives_word}
-use Rattle.xc_tree.specs.Shapes.Around.{Around, in_transaction}
+use Rattle.xc_tree.specs.Shapes.Enclosing.{Enclosing, in_transaction}
 use Rattle.xc_tree.specs.Trees.{argument_of}
 use Rattle.xc_tree.specs.Types.Calls as calls
 use Rattle.xc_tree.specs.Types.Named.{named_of}
-use Rattle.xc_types.specs.declared.findings.Findings.{Findings}
+use Rattle.xc_types.specs.declared.checker.Checker.{Checker}
 use Rattle.xc_types.specs.declared.judged.Judged.{Judged}
 use Rattle.xc_types.specs.Given.{argument}
-use Rattle.xc_types.specs.Findings.{first_with, with_broken, with_first}
+use Rattle.xc_types.specs.Checker.{first_with, with_broken, with_first}
 
 abbrev pub judged_nothing : Judged
 judged_nothing = record { misfit = None; again = None; variables = []; has_channel = false }
@@ -57,7 +57,7 @@ abbrev pub kind_of : List Param → ℕ → Option ParamKind
 kind_of ps i = option_map (λ (p : Param). p.kind) (slice_get ps i)
 
 -- with what a call breaks, by how many arguments it has and what is said of them
-abbrev pub with_call : Around → Option plain.Head → (number : ℕ) → Judged → (is_right_side : Bool) → Pos → Findings → Findings
+abbrev pub with_call : Enclosing → Option plain.Head → (number : ℕ) → Judged → (is_right_side : Bool) → Pos → Checker → Checker
 with_call around meant number j r p s =
     with_broken (in_transaction around.holders && j.has_channel) 506 p
     (with_first j.again
@@ -67,10 +67,10 @@ with_call around meant number j r p s =
     (with_broken (not (is_some meant)) 404 p s)))))
 
 -- what is said of these arguments too, by what was found before them
-abbrev pub judged_further : Named → List Param → List Arg → Findings → Judged → Judged
+abbrev pub judged_further : Named → List Param → List Arg → Checker → Judged → Judged
 judged_further named params args f j =
     judged j (calls.arguments (named_of named) f.names params (map argument_of args))
 
 -- what is said of these arguments, by what was found before them
-abbrev pub judged_arguments : Named → List Param → List Arg → Findings → Judged
+abbrev pub judged_arguments : Named → List Param → List Arg → Checker → Judged
 judged_arguments named params args f = judged_further named params args f judged_nothing

@@ -1,5 +1,5 @@
-pub mod Around
-pub mod Findings
+pub mod Enclosing
+pub mod Checker
 pub mod After
 pub mod Given
 pub mod Judged

@@ -1,7 +1,7 @@
 -- The statements of main's block.
 use Rattle.std.specs.Prelude.{Bool, true, false, not, ◌&&◌, List, map, if◌then◌else◌}
 use Rattle.xc_tree.specs.Plain as plain
-use Rattle.xc_tree.specs.Shapes.Around.{is_main}
+use Rattle.xc_tree.specs.Shapes.Enclosing.{is_main}
 use Rattle.xc_tree.specs.Shapes.Main.{has_placed, is_placed, are_channels, is_channels_par_return, place_branches, statements_in}
 use Rattle.xc_tree.specs.declared.tree.FuncItem.{FuncItem}
 use Rattle.xc_tree.specs.declared.tree.Stmt.{Stmt}

@@ -3,14 +3,14 @@ ghost use Rattle.std.specs.Prelude.{◌≡◌, ◌&&◌, not, IfOk, OnOk};
 ghost use Rattle.xc_tree.specs.Types.Named.{function_of as function, named_of};
 ghost use Rattle.xc_tree.specs.Types.Rules as rule;
 ghost use Rattle.xc_tree.specs.Types.Sites as sites;
-ghost use Rattle.xc_types.specs.Around.{around_of, is_in_transaction};
+ghost use Rattle.xc_types.specs.Enclosing.{around_of, is_in_transaction};
 ghost use Rattle.xc_types.specs.Judged.{has_number_of, judged_arguments, judged_further, kind_of, with_call};
 ghost use Rattle.xc_types.specs.After as after;
 ghost use Rattle.xc_types.specs.Given.{head};
 
-use crate::around::{Around, in_transaction};
+use crate::checker::Checker;
+use crate::enclosing::{Enclosing, in_transaction};
 use crate::entities::what_of;
-use crate::findings::Findings;
 use crate::judged::Judged;
 use crate::lvals::{lval, part, whole};
 use xc_tree::{Arg, Expr, FuncItem, Item, Named, Param, ParamKind, Rhs, What};
@@ -19,9 +19,9 @@ use xw_words::{Memory, Pos};
 /// Checks what may stand at the right of an `=`.
 #[tactic(auto, using(crate::proofs::Steps::steps))]
 pub fn right_side_if_any(
-    found: &mut Findings,
+    found: &mut Checker,
     named: &Named,
-    around: &Around,
+    around: &Enclosing,
     rhs: &Option<Rhs>,
 ) -> Result<(), Memory>
     ensures { OnOk result
@@ -36,9 +36,9 @@ pub fn right_side_if_any(
 /// Checks an expression or a call, which is what stands at the right of an `=` or a statement.
 #[tactic(auto, using(crate::proofs::Steps::steps))]
 pub fn right_side(
-    found: &mut Findings,
+    found: &mut Checker,
     named: &Named,
-    around: &Around,
+    around: &Enclosing,
     rhs: &Rhs,
     is_right_side: bool,
 ) -> Result<(), Memory>
@@ -69,8 +69,8 @@ pub fn right_side(
 /// of them.
 #[tactic(auto, using(crate::proofs::Judging::callable))]
 fn judge_call(
-    found: &mut Findings,
-    around: &Around,
+    found: &mut Checker,
+    around: &Enclosing,
     called: Option<&FuncItem>,
     number: usize,
     judged: &Judged,
@@ -96,7 +96,7 @@ fn lacks_word(is_right_side: bool, called: Option<&FuncItem>) -> bool
 }
 
 /// Whether a channel is an argument of a call inside a transaction.
-fn has_channel_inside(around: &Around, judged: &Judged) -> bool
+fn has_channel_inside(around: &Enclosing, judged: &Judged) -> bool
     ensures { result ≡ (is_in_transaction around.now && judged.now.has_channel) }
 {
     in_transaction(around) && judged.has_channel
@@ -147,7 +147,7 @@ fn gives_word(called: Option<&FuncItem>) -> bool
 
 /// Checks the arguments of a call, and says what is to be said of them together.
 fn arguments(
-    found: &mut Findings,
+    found: &mut Checker,
     named: &Named,
     params: &[Param],
     args: &[Arg],
@@ -165,7 +165,7 @@ fn arguments(
 /// Checks the arguments of a call, one behind the other, and judges each.
 #[tactic(auto, using(crate::proofs::Judging::passing))]
 fn judge_each(
-    found: &mut Findings,
+    found: &mut Checker,
     named: &Named,
     params: &[Param],
     args: &[Arg],
@@ -197,7 +197,7 @@ fn parameter_at(params: &[Param], i: usize) -> Option<&ParamKind>
 /// Checks an argument for its parameter, where it has one.
 #[tactic(auto, using(crate::proofs::Steps::steps))]
 fn argument(
-    found: &mut Findings,
+    found: &mut Checker,
     named: &Named,
     parameter: Option<&ParamKind>,
     e: &Expr,

@@ -6,7 +6,7 @@ ghost use Rattle.xc_tree.specs.Types.Named.{named_of};
 ghost use Rattle.xc_tree.specs.Types.Sites.{unsigned_at};
 ghost use Rattle.xw_words.specs.declared.pos.Broken.{Broken};
 
-use crate::findings::Findings;
+use crate::checker::Checker;
 use crate::program::program;
 use std::alloc::Global;
 use xc_tree::{Named, Refusal, Typed};
@@ -36,7 +36,7 @@ fn unsigned_of(alloc: Global, named: &Named) -> Result<List<bool>, TypeErr>
     ensures unbroken { IfOk result (λ types. (b : Broken) → Breaks (named_of named.now) b → ⊥) }
     ensures broken { IfErr result (λ e. IfBroken e (IsFirst (Breaks (named_of named.now)))) }
 {
-    let Findings { types, best, .. } = findings_of(alloc, named)?;
+    let Checker { types, best, .. } = findings_of(alloc, named)?;
     match best {
         Some(broken) => Err(TypeErr::Broken(broken)),
         None => Ok(types),
@@ -44,11 +44,11 @@ fn unsigned_of(alloc: Global, named: &Named) -> Result<List<bool>, TypeErr>
 }
 
 /// What is found in a whole program.
-fn findings_of(alloc: Global, named: &Named) -> Result<Findings, Memory>
+fn findings_of(alloc: Global, named: &Named) -> Result<Checker, Memory>
     ensures types { IfOk result (λ found. found.types ≡ unsigned_at (named_of named.now)) }
     ensures best { IfOk result (λ found. IsLeastOf (Breaks (named_of named.now)) found.best) }
 {
-    let mut found = Findings::new(alloc);
+    let mut found = Checker::new(alloc);
     program(&mut found, named)?;
     Ok(found)
 }

@@ -4,10 +4,10 @@ ghost use Rattle.xc_tree.specs.Types.Named.{named_of};
 ghost use Rattle.xc_types.specs.Communications.{after_condition, after_stamp, after_target_and_stamp, after_time, can_ask, past_input};
 ghost use Rattle.xc_types.specs.After as after;
 
+use crate::checker::Checker;
 use crate::entities::{
     declaration_of, gives_input, is_channel, is_port, is_timer, takes_output, what_of,
 };
-use crate::findings::Findings;
 use crate::lvals::{lval, part};
 use xc_tree::words::TIMERAFTER_WORD;
 use xc_tree::{Dest, Head, Named, Send, Timed, What, When};
@@ -15,7 +15,7 @@ use xw_words::{Memory, Pos};
 
 /// Checks an output.
 #[tactic(auto, using(crate::proofs::Talks::talks))]
-pub fn output(found: &mut Findings, named: &Named, send: &Send) -> Result<(), Memory>
+pub fn output(found: &mut Checker, named: &Named, send: &Send) -> Result<(), Memory>
     ensures { OnOk result (found.new ≡ after.output named.now send.now found.old) }
 {
     let name = found.names.count();
@@ -29,7 +29,7 @@ pub fn output(found: &mut Findings, named: &Named, send: &Send) -> Result<(), Me
 }
 
 /// Checks an input.
-pub fn input(found: &mut Findings, named: &Named, head: &Head) -> Result<(), Memory>
+pub fn input(found: &mut Checker, named: &Named, head: &Head) -> Result<(), Memory>
     ensures { OnOk result (found.new ≡ after.input named.now head.now found.old) }
 {
     let what = what_of(named, found.names.count());
@@ -42,7 +42,7 @@ pub fn input(found: &mut Findings, named: &Named, head: &Head) -> Result<(), Mem
 
 /// Checks an input, if there is one.
 #[tactic(auto, using(crate::proofs::Steps::steps))]
-pub fn input_if_any(found: &mut Findings, named: &Named, head: &Option<Head>) -> Result<(), Memory>
+pub fn input_if_any(found: &mut Checker, named: &Named, head: &Option<Head>) -> Result<(), Memory>
     ensures { OnOk result (found.new ≡ after.input_if_any named.now head.now found.old) }
 {
     match head {
@@ -53,7 +53,7 @@ pub fn input_if_any(found: &mut Findings, named: &Named, head: &Option<Head>) ->
 
 /// Checks the name of an input, which stands at this place.
 #[tactic(auto, using(crate::proofs::Talks::same_names))]
-fn input_name(found: &mut Findings, named: &Named, pos: Pos) -> Result<(), Memory>
+fn input_name(found: &mut Checker, named: &Named, pos: Pos) -> Result<(), Memory>
     ensures { OnOk result (found.new ≡ past_input (named_of named.now) pos found.old) }
 {
     let name = found.names.count();
@@ -65,7 +65,7 @@ fn input_name(found: &mut Findings, named: &Named, pos: Pos) -> Result<(), Memor
 
 /// Checks where an input goes, and the stamp behind that.
 fn target_and_stamp(
-    found: &mut Findings,
+    found: &mut Checker,
     named: &Named,
     is_port: bool,
     head: &Head,
@@ -79,7 +79,7 @@ fn target_and_stamp(
 
 /// Checks a time, in a communication with a port or something else.
 fn time(
-    found: &mut Findings,
+    found: &mut Checker,
     named: &Named,
     is_port: bool,
     time: &Option<Timed>,
@@ -97,7 +97,7 @@ fn time(
 
 /// Checks a stamp, which is an `lval`.
 fn stamp(
-    found: &mut Findings,
+    found: &mut Checker,
     named: &Named,
     is_port: bool,
     stamp: &Option<Timed>,
@@ -115,7 +115,7 @@ fn stamp(
 
 /// Checks a condition on what is read.
 fn condition(
-    found: &mut Findings,
+    found: &mut Checker,
     named: &Named,
     what: Option<&What>,
     condition: &Option<When>,
@@ -145,7 +145,7 @@ fn can_be_asked(what: Option<&What>, test: u8) -> bool
 
 /// Checks where an input goes. A name that is declared there is a word.
 #[tactic(auto, using(crate::proofs::Steps::steps))]
-fn target(found: &mut Findings, named: &Named, dest: &Dest) -> Result<(), Memory>
+fn target(found: &mut Checker, named: &Named, dest: &Dest) -> Result<(), Memory>
     ensures { OnOk result (found.new ≡ after.target named.now dest.now found.old) }
 {
     match dest {

@@ -1,11 +1,11 @@
 ghost use Rattle.std.specs.Prelude.{◌≡◌, [], ◌∷◌, OnOk};
 ghost use Rattle.xc_tree.specs.Types.Sites as sites;
-ghost use Rattle.xc_types.specs.Findings.{saw};
+ghost use Rattle.xc_types.specs.Checker.{saw};
 ghost use Rattle.xc_types.specs.After as after;
 
-use crate::around::Around;
 use crate::calls::right_side_if_any;
-use crate::findings::Findings;
+use crate::checker::Checker;
+use crate::enclosing::Enclosing;
 use xc_tree::{DeclKind, Declared, Named};
 use xw_words::{Memory, Pos};
 
@@ -15,9 +15,9 @@ const LONGEST_ARRAY: u32 = 16_384;
 /// Checks what a declaration declares.
 #[tactic(auto, using(crate::proofs::Loops::loops))]
 pub fn declarations(
-    found: &mut Findings,
+    found: &mut Checker,
     named: &Named,
-    around: &Around,
+    around: &Enclosing,
     declared: &[Declared],
 ) -> Result<(), Memory>
     ensures { OnOk result
@@ -32,7 +32,12 @@ pub fn declarations(
 
 /// Checks what stands behind a name that is declared.
 #[tactic(auto, using(crate::proofs::Steps::steps))]
-fn kind(found: &mut Findings, named: &Named, around: &Around, kind: &DeclKind) -> Result<(), Memory>
+fn kind(
+    found: &mut Checker,
+    named: &Named,
+    around: &Enclosing,
+    kind: &DeclKind,
+) -> Result<(), Memory>
     ensures { OnOk result (found.new ≡ after.kind named.now around.now kind.now found.old) }
 {
     match kind {
@@ -48,7 +53,7 @@ fn kind(found: &mut Findings, named: &Named, around: &Around, kind: &DeclKind) -
 
 /// Checks the length of an array: rule 409.
 #[tactic(auto, using(crate::proofs::Steps::steps))]
-pub fn array_length(found: &mut Findings, length: u32, pos: Pos)
+pub fn array_length(found: &mut Checker, length: u32, pos: Pos)
     ensures { found.new ≡ saw found.old [] (sites.array_length length pos ∷ []) }
 {
     found.breaks_where(length < 1 || length > LONGEST_ARRAY, 409, pos);

@@ -3,11 +3,11 @@ ghost use Rattle.xc_tree.specs.Plain as plain;
 ghost use Rattle.xc_tree.specs.Trees.{expression_of};
 ghost use Rattle.xc_tree.specs.Types.Named.{named_of};
 ghost use Rattle.xc_tree.specs.Types.Words.{form_is_unsigned, gives_unsigned as gives, is_unsigned};
-ghost use Rattle.xc_types.specs.Findings.{after_indexed, after_word, next_has_unsigned, next_is_unsigned, with_type};
+ghost use Rattle.xc_types.specs.Checker.{after_indexed, after_word, next_has_unsigned, next_is_unsigned, with_type};
 ghost use Rattle.xc_types.specs.After as after;
 
+use crate::checker::Checker;
 use crate::entities::{elements_are_unsigned, is_array, is_word, what_of, word_is_unsigned};
-use crate::findings::Findings;
 use xc_tree::symbols::{ABOVE, BANG, BELOW, EQUALS_EQUALS, OR_OR, SHIFT_DOWN, SHIFT_UP};
 use xc_tree::{Ex, Expr, Named};
 use xw_words::{Memory, Pos};
@@ -31,7 +31,7 @@ fn either(first: bool, second: bool) -> bool
 }
 
 /// Checks a name where a word is needed, and says whether it is `unsigned`: rule 401.
-fn word(found: &mut Findings, named: &Named, pos: Pos) -> Result<bool, Memory>
+fn word(found: &mut Checker, named: &Named, pos: Pos) -> Result<bool, Memory>
     ensures found { OnOk result (found.new ≡ after_word (named_of named.now) pos found.old) }
     ensures is_unsigned { IfOk result (λ u. u ≡ next_is_unsigned (named_of named.now) found.old) }
 {
@@ -44,7 +44,7 @@ fn word(found: &mut Findings, named: &Named, pos: Pos) -> Result<bool, Memory>
 }
 
 /// Checks a name before a `[`, and says whether the elements are `unsigned`: rule 402.
-fn indexed(found: &mut Findings, named: &Named, pos: Pos) -> Result<bool, Memory>
+fn indexed(found: &mut Checker, named: &Named, pos: Pos) -> Result<bool, Memory>
     ensures found { OnOk result (found.new ≡ after_indexed (named_of named.now) pos found.old) }
     ensures is_unsigned { IfOk result (λ u. u ≡ next_has_unsigned (named_of named.now) found.old) }
 {
@@ -59,7 +59,7 @@ fn indexed(found: &mut Findings, named: &Named, pos: Pos) -> Result<bool, Memory
 /// Checks an expression where a word is needed, and says whether it is `unsigned`.
 #[cycle(expression)]
 #[tactic(auto, using(crate::proofs::Steps::expression_steps))]
-pub fn expression(found: &mut Findings, named: &Named, e: &Expr) -> Result<bool, Memory>
+pub fn expression(found: &mut Checker, named: &Named, e: &Expr) -> Result<bool, Memory>
     ensures found { OnOk result (found.new ≡ after.expression named.now e.now found.old) }
     ensures is_unsigned { IfOk result
         (λ u. u ≡ is_unsigned (named_of named.now) found.old.names (expression_of e.now)) }
@@ -91,7 +91,7 @@ pub fn expression(found: &mut Findings, named: &Named, e: &Expr) -> Result<bool,
 /// Checks an element of an array, whose name stands at this place, and says whether it is `unsigned`.
 #[cycle(expression)]
 #[tactic(auto, using(crate::proofs::Steps::expression_steps))]
-fn element(found: &mut Findings, named: &Named, index: &Expr, pos: Pos) -> Result<bool, Memory>
+fn element(found: &mut Checker, named: &Named, index: &Expr, pos: Pos) -> Result<bool, Memory>
     ensures found { OnOk result (found.new
         ≡ after.expression named.now index.now (after_indexed (named_of named.now) pos found.old)) }
     ensures is_unsigned { IfOk result (λ u. u ≡ next_has_unsigned (named_of named.now) found.old) }
@@ -105,7 +105,7 @@ fn element(found: &mut Findings, named: &Named, index: &Expr, pos: Pos) -> Resul
 #[cycle(expression)]
 #[tactic(auto, using(crate::proofs::Steps::expression_steps))]
 fn cast(
-    found: &mut Findings,
+    found: &mut Checker,
     named: &Named,
     becomes_unsigned: bool,
     operand: &Expr,
@@ -122,7 +122,7 @@ fn cast(
 /// Checks an operator before its operand, and says whether it gives an `unsigned`.
 #[cycle(expression)]
 #[tactic(auto, using(crate::proofs::Steps::expression_steps))]
-fn unary(found: &mut Findings, named: &Named, symbol: u8, operand: &Expr) -> Result<bool, Memory>
+fn unary(found: &mut Checker, named: &Named, symbol: u8, operand: &Expr) -> Result<bool, Memory>
     ensures found { OnOk result
         (found.new ≡ after.unary named.now symbol operand.now found.old) }
     ensures is_unsigned { IfOk result (λ u. u ≡ form_is_unsigned (named_of named.now)
@@ -139,7 +139,7 @@ fn unary(found: &mut Findings, named: &Named, symbol: u8, operand: &Expr) -> Res
 #[cycle(expression)]
 #[tactic(auto, using(crate::proofs::Steps::expression_steps))]
 fn right_operand(
-    found: &mut Findings,
+    found: &mut Checker,
     named: &Named,
     symbol: u8,
     first: bool,
@@ -160,7 +160,7 @@ fn right_operand(
 /// Checks what stands before a `?`, and gives the place of that node, whose type isn't known yet.
 #[cycle(expression)]
 #[tactic(auto, using(crate::proofs::Steps::expression_steps))]
-fn condition(found: &mut Findings, named: &Named, test: &Expr) -> Result<usize, Memory>
+fn condition(found: &mut Checker, named: &Named, test: &Expr) -> Result<usize, Memory>
     ensures found { OnOk result
         (found.new ≡ with_type false (after.expression named.now test.now found.old)) }
     ensures place { IfOk result

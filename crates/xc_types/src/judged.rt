@@ -2,7 +2,7 @@ ghost use Rattle.std.specs.Option.{option_copied};
 ghost use Rattle.std.specs.Prelude.{◌≡◌, OnOk};
 ghost use Rattle.xc_tree.specs.Types.Rules.{is_one_of as one_of};
 ghost use Rattle.xc_types.specs.Judged.{judged_nothing, with_argument, with_variable};
-ghost use Rattle.xc_types.specs.Findings.{first_with as first_of_with};
+ghost use Rattle.xc_types.specs.Checker.{first_with as first_of_with};
 
 use crate::arguments::{fits, is_channel_given, referred};
 use std::alloc::Global;

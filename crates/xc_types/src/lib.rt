@@ -3,14 +3,15 @@
 #![tactic(auto)]
 
 mod arguments;
-mod around;
 mod calls;
+mod checker;
 mod checking;
 mod communications;
+mod counter;
 mod declarations;
+mod enclosing;
 mod entities;
 mod expressions;
-mod findings;
 mod judged;
 mod lvals;
 mod main_function;
@@ -18,6 +19,5 @@ mod places;
 mod program;
 mod shapes;
 mod statements;
-mod tally;
 
 pub use checking::{TypeErr, check};

@@ -1,15 +1,15 @@
 ghost use Rattle.std.specs.Prelude.{◌≡◌, OnOk};
 ghost use Rattle.xc_types.specs.After as after;
 
+use crate::checker::Checker;
 use crate::entities::{is_index, is_word, what_of, word_is_unsigned};
 use crate::expressions::expression;
-use crate::findings::Findings;
 use xc_tree::{Ex, Expr, Named};
 use xw_words::Memory;
 
 /// Checks an expression where an `lval` is needed: rules 403 and 412 speak of a name alone.
 #[tactic(auto, using(crate::proofs::Steps::steps))]
-pub fn lval(found: &mut Findings, named: &Named, e: &Expr) -> Result<(), Memory>
+pub fn lval(found: &mut Checker, named: &Named, e: &Expr) -> Result<(), Memory>
     ensures { OnOk result (found.new ≡ after.lval named.now e.now found.old) }
 {
     match &e.kind {
@@ -26,7 +26,7 @@ pub fn lval(found: &mut Findings, named: &Named, e: &Expr) -> Result<(), Memory>
 
 /// Checks an argument whose parameter is neither by value nor `&`: a name alone needs be no word.
 #[tactic(auto, using(crate::proofs::Steps::steps))]
-pub fn whole(found: &mut Findings, named: &Named, e: &Expr) -> Result<(), Memory>
+pub fn whole(found: &mut Checker, named: &Named, e: &Expr) -> Result<(), Memory>
     ensures { OnOk result (found.new ≡ after.whole named.now e.now found.old) }
 {
     match &e.kind {
@@ -40,7 +40,7 @@ pub fn whole(found: &mut Findings, named: &Named, e: &Expr) -> Result<(), Memory
 }
 
 /// Checks an expression whose type nothing asks for.
-pub fn part(found: &mut Findings, named: &Named, e: &Expr) -> Result<(), Memory>
+pub fn part(found: &mut Checker, named: &Named, e: &Expr) -> Result<(), Memory>
     ensures { OnOk result (found.new ≡ after.part named.now e.now found.old) }
 {
     expression(found, named, e)?;
@@ -49,7 +49,7 @@ pub fn part(found: &mut Findings, named: &Named, e: &Expr) -> Result<(), Memory>
 
 /// Checks an expression, if there is one.
 #[tactic(auto, using(crate::proofs::Steps::steps))]
-pub fn part_if_any(found: &mut Findings, named: &Named, e: &Option<Expr>) -> Result<(), Memory>
+pub fn part_if_any(found: &mut Checker, named: &Named, e: &Option<Expr>) -> Result<(), Memory>
     ensures { OnOk result (found.new ≡ after.part_if_any named.now e.now found.old) }
 {
     match e {

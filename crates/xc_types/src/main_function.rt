@@ -5,7 +5,7 @@ ghost use Rattle.xc_tree.specs.Shapes.Main as main;
 ghost use Rattle.xc_tree.specs.Trees as tree;
 ghost use Rattle.xc_types.specs.Mains.{breaks_form_of_main, is_return_part, part_of, places, statements_of};
 
-use crate::around::is_main;
+use crate::enclosing::is_main;
 use crate::shapes::both;
 use std::slice;
 use xc_tree::{Branch, DeclKind, Declared, FuncItem, St, Stmt};

@@ -7,9 +7,9 @@ ghost use Rattle.xc_tree.specs.Types.Words.{is_among};
 ghost use Rattle.xc_types.specs.Places.{all_indices, has_form_of_place};
 ghost use Rattle.xc_types.specs.After as after;
 
-use crate::around::{Around, directly_in_main};
+use crate::checker::Checker;
+use crate::enclosing::{Enclosing, directly_in_main};
 use crate::entities::{is_index, what_of};
-use crate::findings::Findings;
 use crate::lvals::part;
 use xc_tree::symbols::{MINUS, PLUS, STAR};
 use xc_tree::{At, Ex, Expr, Named};
@@ -17,7 +17,7 @@ use xw_words::Memory;
 
 /// Checks a place, if there is one: rule 508.
 #[tactic(auto, using(crate::proofs::Placings::placings))]
-pub fn place_if_any(found: &mut Findings, named: &Named, place: &Option<At>) -> Result<(), Memory>
+pub fn place_if_any(found: &mut Checker, named: &Named, place: &Option<At>) -> Result<(), Memory>
     ensures { OnOk result (found.new ≡ after.place_if_any named.now place.now found.old) }
 {
     match place {
@@ -29,9 +29,9 @@ pub fn place_if_any(found: &mut Findings, named: &Named, place: &Option<At>) -> 
 /// Checks the place of a branch, if it has one, by what stands around its `par`: rules 503 and 508.
 #[tactic(auto, using(crate::proofs::Placings::placings))]
 pub fn branch_place(
-    found: &mut Findings,
+    found: &mut Checker,
     named: &Named,
-    around: &Around,
+    around: &Enclosing,
     place: &Option<At>,
 ) -> Result<(), Memory>
     ensures { OnOk result
@@ -48,7 +48,7 @@ pub fn branch_place(
 
 /// Checks a place: rule 508.
 #[tactic(auto, using(crate::proofs::Placings::placings))]
-fn place_at(found: &mut Findings, named: &Named, place: &At) -> Result<(), Memory>
+fn place_at(found: &mut Checker, named: &Named, place: &At) -> Result<(), Memory>
     ensures { OnOk result (found.new ≡ after.place_at named.now place.now found.old) }
 {
     let first = found.names.count();

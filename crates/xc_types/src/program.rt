@@ -1,11 +1,11 @@
 ghost use Rattle.std.specs.Prelude.{◌≡◌, [], OnOk};
 ghost use Rattle.xc_tree.specs.Types.Sites as sites;
-ghost use Rattle.xc_types.specs.Findings.{saw};
+ghost use Rattle.xc_types.specs.Checker.{saw};
 ghost use Rattle.xc_types.specs.After as after;
 
-use crate::around::Around;
+use crate::checker::Checker;
 use crate::declarations::array_length;
-use crate::findings::Findings;
+use crate::enclosing::Enclosing;
 use crate::main_function::breaks_form;
 use crate::places::place_if_any;
 use crate::statements::{statement, statements};
@@ -14,7 +14,7 @@ use xw_words::Memory;
 
 /// Checks a program.
 #[tactic(auto, using(crate::proofs::Programs::items))]
-pub fn program(found: &mut Findings, named: &Named) -> Result<(), Memory>
+pub fn program(found: &mut Checker, named: &Named) -> Result<(), Memory>
     ensures { OnOk result (found.new ≡ after.program named.now found.old) }
 {
     for item in named.tree.items.as_slice() {
@@ -24,7 +24,7 @@ pub fn program(found: &mut Findings, named: &Named) -> Result<(), Memory>
 }
 
 /// Checks an item of a program.
-fn check_item(found: &mut Findings, named: &Named, item: &Item) -> Result<(), Memory>
+fn check_item(found: &mut Checker, named: &Named, item: &Item) -> Result<(), Memory>
     ensures { OnOk result (found.new ≡ after.item named.now item.now found.old) }
 {
     match item {
@@ -34,7 +34,7 @@ fn check_item(found: &mut Findings, named: &Named, item: &Item) -> Result<(), Me
 }
 
 #[tactic(auto, using(crate::proofs::Programs::programs))]
-fn check_port(found: &mut Findings, named: &Named, port: &PortItem) -> Result<(), Memory>
+fn check_port(found: &mut Checker, named: &Named, port: &PortItem) -> Result<(), Memory>
     ensures { OnOk result (found.new ≡ after.port named.now port.now found.old) }
 {
     place_if_any(found, named, &port.place)?;
@@ -42,18 +42,18 @@ fn check_port(found: &mut Findings, named: &Named, port: &PortItem) -> Result<()
 }
 
 #[tactic(auto, using(crate::proofs::Programs::programs))]
-fn check_function(found: &mut Findings, named: &Named, function: &FuncItem) -> Result<(), Memory>
+fn check_function(found: &mut Checker, named: &Named, function: &FuncItem) -> Result<(), Memory>
     ensures { OnOk result (found.new ≡ after.function named.now function.now found.old) }
 {
     found.breaks_where(breaks_form(function), 504, function.name.pos);
     found.pass()?;
     parameters(found, function.params.as_slice())?;
-    body(found, named, &function.body, &Around::Block(function))
+    body(found, named, &function.body, &Enclosing::Block(function))
 }
 
 /// Checks the parameters of a function.
 #[tactic(auto, using(crate::proofs::Loops::loops))]
-fn parameters(found: &mut Findings, params: &[Param]) -> Result<(), Memory>
+fn parameters(found: &mut Checker, params: &[Param]) -> Result<(), Memory>
     ensures { OnOk result (found.new ≡ after.parameters params.now found.old) }
 {
     for p in params {
@@ -63,7 +63,7 @@ fn parameters(found: &mut Findings, params: &[Param]) -> Result<(), Memory>
 }
 
 #[tactic(auto, using(crate::proofs::Programs::programs))]
-fn parameter(found: &mut Findings, p: &Param) -> Result<(), Memory>
+fn parameter(found: &mut Checker, p: &Param) -> Result<(), Memory>
     ensures { OnOk result (found.new ≡ after.parameter p.now found.old) }
 {
     found.pass()?;
@@ -73,7 +73,7 @@ fn parameter(found: &mut Findings, p: &Param) -> Result<(), Memory>
 
 /// Checks the length of an array parameter, if it has one.
 #[tactic(auto, using(crate::proofs::Programs::programs))]
-fn parameter_length(found: &mut Findings, kind: &ParamKind)
+fn parameter_length(found: &mut Checker, kind: &ParamKind)
     ensures { found.new ≡ saw found.old [] (sites.of_parameter_kind kind.now) }
 {
     match kind {
@@ -85,7 +85,7 @@ fn parameter_length(found: &mut Findings, kind: &ParamKind)
 
 /// Checks what stands in a function's block, which shares the scope of its parameters.
 #[tactic(auto, using(crate::proofs::Programs::programs))]
-fn body(found: &mut Findings, named: &Named, s: &Stmt, around: &Around) -> Result<(), Memory>
+fn body(found: &mut Checker, named: &Named, s: &Stmt, around: &Enclosing) -> Result<(), Memory>
     ensures { OnOk result (found.new ≡ after.body named.now s.now around.now found.old) }
 {
     match &*s.kind {

@@ -2,18 +2,18 @@ ghost use Rattle.std.specs.Prelude.{◌≡◌, ◌&&◌, map, bytes_eq, OnOk};
 ghost use Rattle.xc_tree.specs.Plain as plain;
 ghost use Rattle.xc_tree.specs.Shapes.Rules.{are_all as all, are_one as one};
 ghost use Rattle.xc_tree.specs.Trees.{case_of};
-ghost use Rattle.xc_types.specs.Around.{around_of};
-ghost use Rattle.xc_types.specs.Findings.{after_break, after_continue, after_replicator, after_return, after_select, not_inside, with_defaults};
+ghost use Rattle.xc_types.specs.Enclosing.{around_of};
+ghost use Rattle.xc_types.specs.Checker.{after_break, after_continue, after_replicator, after_return, after_select, not_inside, with_defaults};
 
-use crate::around::{
-    Around, function_around, has_next_turn, has_way_out, in_par_or_transaction, in_transaction,
+use crate::checker::Checker;
+use crate::enclosing::{
+    Enclosing, function_around, has_next_turn, has_way_out, in_par_or_transaction, in_transaction,
 };
-use crate::findings::Findings;
 use xc_tree::{Case, Id};
 use xw_words::{Memory, Pos};
 
 /// Checks a `return`, whose word stands at this place: rules 408 and 502.
-pub fn returns(found: &mut Findings, around: &Around, has_value: bool, pos: Pos)
+pub fn returns(found: &mut Checker, around: &Enclosing, has_value: bool, pos: Pos)
     ensures { found.new ≡ after_return (around_of around.now) has_value pos found.old }
 {
     let gives_word = function_around(around).result.is_some();
@@ -22,21 +22,21 @@ pub fn returns(found: &mut Findings, around: &Around, has_value: bool, pos: Pos)
 }
 
 /// Checks a `break`, whose word stands at this place: rule 501.
-pub fn breaks(found: &mut Findings, around: &Around, pos: Pos)
+pub fn breaks(found: &mut Checker, around: &Enclosing, pos: Pos)
     ensures { found.new ≡ after_break (around_of around.now) pos found.old }
 {
     found.breaks_where(!has_way_out(around), 501, pos);
 }
 
 /// Checks a `continue`, whose word stands at this place: rule 501.
-pub fn continues(found: &mut Findings, around: &Around, pos: Pos)
+pub fn continues(found: &mut Checker, around: &Enclosing, pos: Pos)
     ensures { found.new ≡ after_continue (around_of around.now) pos found.old }
 {
     found.breaks_where(!has_next_turn(around), 501, pos);
 }
 
 /// Checks that a `par`, a select or a transaction, whose word stands at this place, isn't in a transaction: rule 506.
-pub fn not_in_transaction(found: &mut Findings, around: &Around, pos: Pos)
+pub fn not_in_transaction(found: &mut Checker, around: &Enclosing, pos: Pos)
     ensures { found.new ≡ not_inside (around_of around.now) pos found.old }
 {
     found.breaks_where(in_transaction(around), 506, pos);
@@ -45,8 +45,8 @@ pub fn not_in_transaction(found: &mut Findings, around: &Around, pos: Pos)
 /// Checks what stands before the body of a replicated `par`, whose word stands at this place: rules 415 and 506.
 #[tactic(auto, using(crate::proofs::Shaping::replicating))]
 pub fn begin_replicated(
-    found: &mut Findings,
-    around: &Around,
+    found: &mut Checker,
+    around: &Enclosing,
     first: &Id,
     second: &Id,
     third: &Id,
@@ -80,7 +80,7 @@ pub fn both(a: bool, b: bool) -> bool
 }
 
 /// Checks what is around a select, whose word stands at this place, and its cases together: rules 506 and 507.
-pub fn begin_select(found: &mut Findings, around: &Around, cs: &[Case], pos: Pos)
+pub fn begin_select(found: &mut Checker, around: &Enclosing, cs: &[Case], pos: Pos)
     ensures { found.new ≡ after_select (around_of around.now)
         (plain.cases (map case_of cs.now)) pos found.old }
 {
@@ -90,7 +90,7 @@ pub fn begin_select(found: &mut Findings, around: &Around, cs: &[Case], pos: Pos
 
 /// Checks that a select has at most one `default`: rule 507.
 #[tactic(auto, using(crate::proofs::Defaults::one_by_one))]
-fn defaults(found: &mut Findings, cs: &[Case])
+fn defaults(found: &mut Checker, cs: &[Case])
     ensures { found.new ≡ with_defaults (plain.cases (map case_of cs.now)) found.old }
 {
     let mut has_default = false;

@@ -1,11 +1,11 @@
 ghost use Rattle.std.specs.Prelude.{◌≡◌, OnOk};
 ghost use Rattle.xc_types.specs.After as after;
 
-use crate::around::{Around, Holder, in_transaction};
 use crate::calls::{right_side, right_side_if_any};
+use crate::checker::Checker;
 use crate::communications::{input, input_if_any, output};
 use crate::declarations::declarations;
-use crate::findings::Findings;
+use crate::enclosing::{Enclosing, Holder, in_transaction};
 use crate::lvals::{lval, part, part_if_any};
 use crate::places::branch_place;
 use crate::shapes::{
@@ -18,10 +18,10 @@ use xw_words::{Memory, Pos};
 #[cycle(statement)]
 #[tactic(auto, using(crate::proofs::Shaping::statement_steps))]
 pub fn statement(
-    found: &mut Findings,
+    found: &mut Checker,
     named: &Named,
     s: &Stmt,
-    around: &Around,
+    around: &Enclosing,
 ) -> Result<(), Memory>
     ensures { OnOk result (found.new ≡ after.statement named.now s.now around.now found.old) }
 {
@@ -32,7 +32,7 @@ pub fn statement(
                 found,
                 named,
                 ss.as_slice(),
-                &Around::Inside(Holder::Block, &*around),
+                &Enclosing::Inside(Holder::Block, &*around),
             )
         }
         St::Decl(ds) => declarations(found, named, around, ds.as_slice()),
@@ -47,10 +47,20 @@ pub fn statement(
         St::If(test, then, otherwise) => choice(found, named, test, then, otherwise, around),
         St::While(test, body) => {
             part(found, named, test)?;
-            statement(found, named, body, &Around::Inside(Holder::Loop, &*around))
+            statement(
+                found,
+                named,
+                body,
+                &Enclosing::Inside(Holder::Loop, &*around),
+            )
         }
         St::DoWhile(body, test) => {
-            statement(found, named, body, &Around::Inside(Holder::Loop, &*around))?;
+            statement(
+                found,
+                named,
+                body,
+                &Enclosing::Inside(Holder::Loop, &*around),
+            )?;
             part(found, named, test)
         }
         St::For(first, test, step, body) => {
@@ -95,17 +105,17 @@ pub fn statement(
 #[cycle(statement)]
 #[tactic(auto, using(crate::proofs::Shaping::statement_steps))]
 fn choice(
-    found: &mut Findings,
+    found: &mut Checker,
     named: &Named,
     test: &Expr,
     then: &Stmt,
     otherwise: &Option<Stmt>,
-    around: &Around,
+    around: &Enclosing,
 ) -> Result<(), Memory>
     ensures { OnOk result (found.new ≡ after.choice named.now test.now then.now otherwise.now
         around.now found.old) }
 {
-    let inner = Around::Inside(Holder::If, &*around);
+    let inner = Enclosing::Inside(Holder::If, &*around);
     part(found, named, test)?;
     statement(found, named, then, &inner)?;
     statement_if_any(found, named, otherwise, &inner)
@@ -115,13 +125,13 @@ fn choice(
 #[cycle(statement)]
 #[tactic(auto, using(crate::proofs::Shaping::statement_steps))]
 fn for_loop(
-    found: &mut Findings,
+    found: &mut Checker,
     named: &Named,
     first: &Option<Stmt>,
     test: &Option<Expr>,
     step: &Option<Stmt>,
     body: &Stmt,
-    around: &Around,
+    around: &Enclosing,
 ) -> Result<(), Memory>
     ensures { OnOk result (found.new ≡ after.for_loop named.now first.now test.now step.now
         body.now around.now found.old) }
@@ -129,16 +139,21 @@ fn for_loop(
     statement_if_any(found, named, first, around)?;
     part_if_any(found, named, test)?;
     statement_if_any(found, named, step, around)?;
-    statement(found, named, body, &Around::Inside(Holder::Loop, &*around))
+    statement(
+        found,
+        named,
+        body,
+        &Enclosing::Inside(Holder::Loop, &*around),
+    )
 }
 
 #[cycle(statement)]
 #[tactic(auto, using(crate::proofs::Shaping::statement_steps))]
 fn statement_if_any(
-    found: &mut Findings,
+    found: &mut Checker,
     named: &Named,
     s: &Option<Stmt>,
-    around: &Around,
+    around: &Enclosing,
 ) -> Result<(), Memory>
     ensures { OnOk result
         (found.new ≡ after.statement_if_any named.now s.now around.now found.old) }
@@ -153,10 +168,10 @@ fn statement_if_any(
 #[cycle(statement)]
 #[tactic(auto, using(crate::proofs::Loops::loops))]
 pub fn statements(
-    found: &mut Findings,
+    found: &mut Checker,
     named: &Named,
     ss: &[Stmt],
-    around: &Around,
+    around: &Enclosing,
 ) -> Result<(), Memory>
     ensures { OnOk result (found.new ≡ after.statements named.now ss.now around.now found.old) }
 {
@@ -170,10 +185,10 @@ pub fn statements(
 #[cycle(statement)]
 #[tactic(auto, using(crate::proofs::Shaping::statement_steps))]
 fn transaction(
-    found: &mut Findings,
+    found: &mut Checker,
     named: &Named,
     ss: &[Stmt],
-    around: &Around,
+    around: &Enclosing,
     pos: Pos,
 ) -> Result<(), Memory>
     ensures { OnOk result
@@ -185,7 +200,7 @@ fn transaction(
         found,
         named,
         ss,
-        &Around::Inside(Holder::Transaction, &*around),
+        &Enclosing::Inside(Holder::Transaction, &*around),
     )?;
     let names_one = found.names_one_channel(begin);
     found.breaks_where(!names_one, 505, pos);
@@ -195,7 +210,7 @@ fn transaction(
 /// Checks a branch of a `par`, with what stands around that.
 #[cycle(statement)]
 #[tactic(auto, using(crate::proofs::Shaping::statement_steps))]
-fn branch(found: &mut Findings, named: &Named, b: &Branch, around: &Around) -> Result<(), Memory>
+fn branch(found: &mut Checker, named: &Named, b: &Branch, around: &Enclosing) -> Result<(), Memory>
     ensures { OnOk result (found.new ≡ after.branch named.now b.now around.now found.old) }
 {
     branch_place(found, named, around, &b.place)?;
@@ -203,17 +218,17 @@ fn branch(found: &mut Findings, named: &Named, b: &Branch, around: &Around) -> R
         found,
         named,
         &b.body,
-        &Around::Inside(Holder::Branch, &*around),
+        &Enclosing::Inside(Holder::Branch, &*around),
     )
 }
 
 #[cycle(statement)]
 #[tactic(auto, using(crate::proofs::Loops::loops))]
 fn branches(
-    found: &mut Findings,
+    found: &mut Checker,
     named: &Named,
     bs: &[Branch],
-    around: &Around,
+    around: &Enclosing,
 ) -> Result<(), Memory>
     ensures { OnOk result (found.new ≡ after.branches named.now bs.now around.now found.old) }
 {
@@ -226,7 +241,7 @@ fn branches(
 /// Checks a case of a select, with what stands around that.
 #[cycle(statement)]
 #[tactic(auto, using(crate::proofs::Shaping::statement_steps))]
-fn case(found: &mut Findings, named: &Named, c: &Case, around: &Around) -> Result<(), Memory>
+fn case(found: &mut Checker, named: &Named, c: &Case, around: &Enclosing) -> Result<(), Memory>
     ensures { OnOk result (found.new ≡ after.case named.now c.now around.now found.old) }
 {
     part_if_any(found, named, &c.guard)?;
@@ -235,13 +250,13 @@ fn case(found: &mut Findings, named: &Named, c: &Case, around: &Around) -> Resul
         found,
         named,
         c.body.as_slice(),
-        &Around::Inside(Holder::Case, &*around),
+        &Enclosing::Inside(Holder::Case, &*around),
     )
 }
 
 #[cycle(statement)]
 #[tactic(auto, using(crate::proofs::Loops::loops))]
-fn cases(found: &mut Findings, named: &Named, cs: &[Case], around: &Around) -> Result<(), Memory>
+fn cases(found: &mut Checker, named: &Named, cs: &[Case], around: &Enclosing) -> Result<(), Memory>
     ensures { OnOk result (found.new ≡ after.cases named.now cs.now around.now found.old) }
 {
     for c in cs {

@@ -19,7 +19,7 @@ use Rattle.xc_wellformed.specs.Each.{AnyNumber}
 use Rattle.xc_wellformed.specs.Numbers.{NumbersInExpression, NumbersInPlace}
 use Rattle.xc_wellformed.specs.Cores.{VariableOn, TimerOn, ResourceOn, OutputOn, InputOn, CoresAreRight}
 use Rattle.xc_wellformed.specs.Rising.{IsRising}
-use Rattle.xc_wellformed.specs.Standing.{HasVariable, Stands, a_variable, whole_array, word_referred, element_referred, array_referred, the_channel, the_end, the_timer, the_port, port_given, the_index, the_function, none_there}
+use Rattle.xc_wellformed.specs.Denotes.{HasVariable, Denotes, a_variable, whole_array, word_referred, element_referred, array_referred, the_channel, the_end, the_timer, the_port, port_given, the_index, the_function, none_there}
 use Rattle.xc_wellformed.proofs.Shaped.{Assigns}
 use Rattle.xc_wellformed.proofs.Right.{IsShallow, IsShallowLval}
 use Rattle.xc_wellformed.proofs.Numbers.{expression_well, lval_well, lval_read}
@@ -40,7 +40,7 @@ module _ (n : NamedProgram) (fs : List Function) (ps : List PortUse) (num : Numb
     on : (path : Path) (b : Bool) (words : ℕ) → (b ≡ false → words ≡ 1) → HasVariable num (PathOn here) path b words → On (variable_number num path) b
     on path b words one h = h.holds
 
-    resource_on : (t : List ℕ) (w : Option What) (x : Entity) → Stands n fs ps num (PathOn here) (TimerPathOn here) t w x → ResourceOn num.timers here (resource_of num x)
+    resource_on : (t : List ℕ) (w : Option What) (x : Entity) → Denotes n fs ps num (PathOn here) (TimerPathOn here) t w x → ResourceOn num.timers here (resource_of num x)
     resource_on t _ _ (the_timer h) = h.1
     resource_on t _ _ (a_variable h) = tt
     resource_on t _ _ (whole_array h) = tt

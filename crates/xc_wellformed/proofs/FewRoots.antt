@@ -27,7 +27,7 @@ use Rattle.xc_disjoint.specs.Rules as rules
 use Rattle.xc_disjoint.specs.Rules.{most_words}
 use Rattle.xc_wellformed.specs.Parts as parts
 use Rattle.xc_wellformed.specs.Parts.{PartsAreFew, words_of}
-use Rattle.xc_wellformed.specs.Standing.{AnyPath, HasVariable}
+use Rattle.xc_wellformed.specs.Denotes.{AnyPath, HasVariable}
 use Rattle.xc_wellformed.proofs.Walk.Arguments.{AllIn, split}
 use Rattle.xc_wellformed.proofs.Instances.{all_also, program_variables}
 use Rattle.xc_wellformed.specs.Laws.{PartsFew}

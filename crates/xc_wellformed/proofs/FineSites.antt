@@ -12,7 +12,7 @@ use Rattle.xc_tree.specs.Types.Rules.{broken_where, broken_unless, misfits, has_
 use Rattle.xc_tree.specs.Words.{timerafter_word}
 use Rattle.xc_tree.specs.Types.Sites.{Site, sites}
 use Rattle.xc_tree.specs.Types.Sites as site
-use Rattle.xc_tree.specs.Shapes.Around.{has_way_out, has_next_turn, in_transaction, in_par_or_transaction, is_main}
+use Rattle.xc_tree.specs.Shapes.Enclosing.{has_way_out, has_next_turn, in_transaction, in_par_or_transaction, is_main}
 use Rattle.xc_tree.specs.Shapes.Main.{place_branches, is_channels_par_return, statements_in}
 use Rattle.xc_tree.specs.Shapes.Rules.{channels, are_one, rule_501, rule_502, rule_504, rule_505, rule_506}
 use Rattle.xc_tree.specs.Checks.{rules, rule, Breaks}

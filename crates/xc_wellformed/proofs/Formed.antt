@@ -11,7 +11,7 @@ use Rattle.xc_kernel.specs.Copies.{numbering, copy_of}
 use Rattle.xc_kernel.specs.Sound.{IsTyped}
 use Rattle.xc_wellformed.specs.Each.{AnyExpression, AnyPlace, AnyNumber, AnyOutput, AnyInput, EachRoot}
 use Rattle.xc_wellformed.specs.Numbers.{IsVariable, IsListed, NumbersInExpression, NumbersInPlace, IsChannel, VariablesAreRight}
-use Rattle.xc_wellformed.specs.Standing.{AnyPath}
+use Rattle.xc_wellformed.specs.Denotes.{AnyPath}
 use Rattle.xc_wellformed.specs.Operands.{HasOperands, PlaceHasOperands, OperandsAreRight}
 use Rattle.xc_wellformed.specs.Levels.{IsLow, IsLowPlace, LevelsAreFew}
 use Rattle.xc_wellformed.specs.Transfers.{GoesOut, ComesIn, TransfersAreRight, TransactionsAreListed}

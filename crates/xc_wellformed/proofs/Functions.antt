@@ -17,7 +17,7 @@ use Rattle.xc_kernel.specs.Scopes.{Entity, a_port, nothing_known, entity_by, ent
 use Rattle.xc_kernel.specs.Programs.{Function, functions, ports, function_by, function_named}
 use Rattle.xc_kernel.specs.Ports.{scope_of_ports}
 use Rattle.xc_wellformed.specs.Stacks.{Frame, Stack, decl_by, found_in, after, Resolves, outer}
-use Rattle.xc_wellformed.specs.Standing.{IsInstance, HasPort, head_of, Stands, the_port, the_function, none_there}
+use Rattle.xc_wellformed.specs.Denotes.{IsInstance, HasPort, head_of, Denotes, the_port, the_function, none_there}
 use Rattle.xc_meaning.proofs.Recursion.Scopes as scopes
 use Rattle.xc_wellformed.proofs.Stacks.{resolves_both, scope_ends, quiet_skip, quiet_optional, quiet_place}
 use Rattle.xc_wellformed.proofs.Resolved.{NotNamed, AllNew}
@@ -89,20 +89,20 @@ module _ (n : NamedProgram) (fs : List Function) (ps : List PortUse) (num : Numb
   no_port (tree.function g b ∷ items) i m t s e h = no_port items (i + 1) m t s e (subst (NotNamed s) (outer_item i (tree.function g b) (marks.of_items (i + 1) items)) h).1
 
   pub outside_known : (items : List tree.Item) (i m : ℕ) → AllNew (outer 0 (marks.of_items i items)) → ((j : ℕ) (x : tree.Item) → slice_get items j ≡ Some x → slice_get n.program (i + j) ≡ Some x) → ((j : ℕ) (p : tree.Port) → slice_get (ports items) j ≡ Some p → HasPort ps (m + j) p.dir) →
-      (t : List ℕ) → function_named fs t ≡ function_named (functions items) t → Stands n fs ps num (H here) (J here) t (what_of (found_in (outer 0 (marks.of_items i items)) t None)) (entity_of (scope_of_ports m (ports items)) t)
+      (t : List ℕ) → function_named fs t ≡ function_named (functions items) t → Denotes n fs ps num (H here) (J here) t (what_of (found_in (outer 0 (marks.of_items i items)) t None)) (entity_of (scope_of_ports m (ports items)) t)
   outside_known [] i m new at_items at_ports t e = none_there
   outside_known (tree.port p ∷ items) i m new at_items at_ports t e =
       let rest = marks.of_items (i + 1) items in
       let o = outer_item i (tree.port p) rest in
       let new1 = (subst AllNew o new).1 in
       let next = outside_known items (i + 1) (m + 1) new1 (λ j x q. subst (λ (u : ℕ). slice_get n.program u ≡ Some x) (shift i j) (at_items (suc j) x q)) (λ j x q. subst (λ (u : ℕ). HasPort ps u x.dir) (shift m j) (at_ports (suc j) x q)) t e in
-      subst (λ (ds : List Decl). Stands n fs ps num (H here) (J here) t (what_of (found_in ds t None)) (entity_of (scope_of_ports m (ports (tree.port p ∷ items))) t)) (sym o)
+      subst (λ (ds : List Decl). Denotes n fs ps num (H here) (J here) t (what_of (found_in ds t None)) (entity_of (scope_of_ports m (ports (tree.port p ∷ items))) t)) (sym o)
       (by (bytes_eq p.name.text t) (at_ports 0 p refl) next)
     where
       shift : (a b : ℕ) → a + suc b ≡ (a + 1) + b
       shift a b = omega arith
 
-      by : (b : Bool) → HasPort ps (m + 0) p.dir → Stands n fs ps num (H here) (J here) t (what_of (found_in (outer 0 (marks.of_items (i + 1) items)) t None)) (entity_of (scope_of_ports (m + 1) (ports items)) t) → Stands n fs ps num (H here) (J here) t (what_of (decl_by b (decl_of_item i (tree.port p)) (found_in (outer 0 (marks.of_items (i + 1) items)) t None))) (entity_by b (a_port m) (entity_of (scope_of_ports (m + 1) (ports items)) t))
+      by : (b : Bool) → HasPort ps (m + 0) p.dir → Denotes n fs ps num (H here) (J here) t (what_of (found_in (outer 0 (marks.of_items (i + 1) items)) t None)) (entity_of (scope_of_ports (m + 1) (ports items)) t) → Denotes n fs ps num (H here) (J here) t (what_of (decl_by b (decl_of_item i (tree.port p)) (found_in (outer 0 (marks.of_items (i + 1) items)) t None))) (entity_by b (a_port m) (entity_of (scope_of_ports (m + 1) (ports items)) t))
       by true h r = the_port (subst (λ (u : ℕ). HasPort ps u p.dir) (none m) h)
         where
           none : (a : ℕ) → a + 0 ≡ a
@@ -112,7 +112,7 @@ module _ (n : NamedProgram) (fs : List Function) (ps : List PortUse) (num : Numb
       let rest = marks.of_items (i + 1) items in
       let o = outer_item i (tree.function h body) rest in
       let new1 = subst AllNew o new in
-      subst (λ (ds : List Decl). Stands n fs ps num (H here) (J here) t (what_of (found_in ds t None)) (entity_of (scope_of_ports m (ports items)) t)) (sym o)
+      subst (λ (ds : List Decl). Denotes n fs ps num (H here) (J here) t (what_of (found_in ds t None)) (entity_of (scope_of_ports m (ports items)) t)) (sym o)
       (by (bytes_eq h.name.text t) refl (at_items 0 (tree.function h body) refl) (λ q. no_port items (i + 1) m t h.name.text q new1.0)
       (λ q. outside_known items (i + 1) m new1.1 (λ j x q. subst (λ (u : ℕ). slice_get n.program u ≡ Some x) (shift i j) (at_items (suc j) x q)) at_ports t (e ∙ ap (λ (b : Bool). function_by b (record { head = h; body = body }) (function_named (functions items) t)) q)))
     where
@@ -120,11 +120,11 @@ module _ (n : NamedProgram) (fs : List Function) (ps : List PortUse) (num : Numb
       shift a b = omega arith
 
       by : (b : Bool) → bytes_eq h.name.text t ≡ b → slice_get n.program (i + 0) ≡ Some (tree.function h body) → (bytes_eq h.name.text t ≡ true → entity_of (scope_of_ports m (ports items)) t ≡ nothing_known) →
-          (bytes_eq h.name.text t ≡ false → Stands n fs ps num (H here) (J here) t (what_of (found_in (outer 0 (marks.of_items (i + 1) items)) t None)) (entity_of (scope_of_ports m (ports items)) t)) →
-          Stands n fs ps num (H here) (J here) t (what_of (decl_by b (decl_of_item i (tree.function h body)) (found_in (outer 0 (marks.of_items (i + 1) items)) t None))) (entity_of (scope_of_ports m (ports items)) t)
+          (bytes_eq h.name.text t ≡ false → Denotes n fs ps num (H here) (J here) t (what_of (found_in (outer 0 (marks.of_items (i + 1) items)) t None)) (entity_of (scope_of_ports m (ports items)) t)) →
+          Denotes n fs ps num (H here) (J here) t (what_of (decl_by b (decl_of_item i (tree.function h body)) (found_in (outer 0 (marks.of_items (i + 1) items)) t None))) (entity_of (scope_of_ports m (ports items)) t)
       by false q there none next = next q
       by true q there none next =
-          subst (λ (x : Entity). Stands n fs ps num (H here) (J here) t (Some (what.Func i)) x) (sym (none q))
+          subst (λ (x : Entity). Denotes n fs ps num (H here) (J here) t (Some (what.Func i)) x) (sym (none q))
           (the_function (ap (λ (x : Option tree.Item). Rattle.xc_tree.specs.Types.Named.head_of_item x) (ap (slice_get n.program) (no_more i) ∙ there)
           ∙ sym (ap (option_map head_of) (e ∙ ap (λ (b : Bool). function_by b (record { head = h; body = body }) (function_named (functions items) t)) q))))
         where

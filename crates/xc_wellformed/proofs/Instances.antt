@@ -11,7 +11,7 @@ use Rattle.xc_kernel.specs.Copy.{Copy, numbering_in}
 use Rattle.xc_kernel.specs.Copies.{rooted, numbering}
 use Rattle.xc_kernel.proofs.Paths.{there_before, there_at_end}
 use Rattle.xc_kernel.proofs.Roots.{numbering_is_own}
-use Rattle.xc_wellformed.specs.Standing.{HasVariable, HasChannel, HasTimer}
+use Rattle.xc_wellformed.specs.Denotes.{HasVariable, HasChannel, HasTimer}
 use Rattle.xc_wellformed.specs.Once.{NoneAt, PathsDiffer, NoneTwice}
 use Rattle.xc_wellformed.proofs.Walk.Arguments.{AllIn}
 

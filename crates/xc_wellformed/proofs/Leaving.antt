@@ -13,7 +13,7 @@ use Rattle.xc_tree.specs.Types.Named.{NamedProgram, past}
 use Rattle.xc_tree.specs.Types.Words.{is_among}
 use Rattle.xc_tree.specs.Types.Sites.{Site}
 use Rattle.xc_tree.specs.Types.Sites as site
-use Rattle.xc_tree.specs.Shapes.Around.{Around, a_block, an_if, a_loop, a_case, a_branch, a_transaction, inside, in_block_of, has_way_out, has_next_turn, in_par_or_transaction}
+use Rattle.xc_tree.specs.Shapes.Enclosing.{Enclosing, a_block, an_if, a_loop, a_case, a_branch, a_transaction, inside, in_block_of, has_way_out, has_next_turn, in_par_or_transaction}
 use Rattle.xc_kernel.specs.Plain as kernel
 use Rattle.xc_kernel.specs.Paths.{Path, path_at, path_of_turn, has_path}
 use Rattle.xc_kernel.specs.Numbering.{Numbering, block_number, path_of_block}
@@ -25,7 +25,7 @@ use Rattle.xc_kernel.specs.Parameters.{passed, all_passed, by_element, form_by_r
 use Rattle.xc_kernel.specs.Calls.{CopiesCall, result_copy, as_block, function_copy, path_of_call, called, call_by, right_copy, value_of}
 use Rattle.xc_kernel.specs.Declarations.{initial_copy, kind_copy, declarations_copy}
 use Rattle.xc_kernel.specs.Transfers.{target_copy}
-use Rattle.xc_kernel.specs.Flow.{test_or_true, turn, loop_at, leave_unless, Branched, numbered_copy, replicated, Cased, case_scope, case_body}
+use Rattle.xc_kernel.specs.Flow.{test_or_true, iteration, loop_at, leave_unless, Branched, numbered_copy, replicated, Cased, case_scope, case_body}
 use Rattle.xc_kernel.specs.Statements.{pos_of_branch, assign_by, return_copy, statement_copy, action_copy, maybe_copy, statements_copy, branch_copy, branches_copy, cases_copy, calls_copy}
 use Rattle.xc_kernel.specs.Roots as roots
 use Rattle.xc_kernel.specs.Ports.{core_of}
@@ -168,23 +168,23 @@ pub record IsFineOf (n : NamedProgram) (f : Function) : Type 0 where
   pub fine : AllIn IsFine (site.of_body n (in_block_of f.head) at f.body)
 
 -- what a statement in this context may leave, by what stands around it
-abbrev Fits : Context → Around → List ℕ → Type 0
+abbrev Fits : Context → Enclosing → List ℕ → Type 0
 Fits c around free =
     (has_way_out around.holders ≡ true → is_among free (block_number c.numbering c.breaks) ≡ true)
     × ((has_next_turn around.holders ≡ true → is_among free (block_number c.numbering c.continues) ≡ true)
     × (in_par_or_transaction around.holders ≡ false → is_among free (block_number c.numbering c.returns) ≡ true))
 
-fits_more : (c : Context) (around : Around) (free : List ℕ) (k : ℕ) → Fits c around free → Fits c around (k ∷ free)
+fits_more : (c : Context) (around : Enclosing) (free : List ℕ) (k : ℕ) → Fits c around free → Fits c around (k ∷ free)
 fits_more c around free k h =
     (λ u. one_more k free (block_number c.numbering c.breaks) (h.0 u), (λ u. one_more k free (block_number c.numbering c.continues) (h.1.0 u), λ u. one_more k free (block_number c.numbering c.returns) (h.1.1 u)))
 
-in_loop_fits : (c : Context) (around : Around) (pos : Pos) (free : List ℕ) → Fits c around free → Fits (in_loop c pos) (inside a_loop around) (block_number c.numbering (path_of_turn (path_at c.path pos)) ∷ block_number c.numbering (path_at c.path pos) ∷ free)
+in_loop_fits : (c : Context) (around : Enclosing) (pos : Pos) (free : List ℕ) → Fits c around free → Fits (in_loop c pos) (inside a_loop around) (block_number c.numbering (path_of_turn (path_at c.path pos)) ∷ block_number c.numbering (path_at c.path pos) ∷ free)
 in_loop_fits c around pos free h =
     let p = block_number c.numbering (path_at c.path pos) in
     let t = block_number c.numbering (path_of_turn (path_at c.path pos)) in
     (λ u. one_more t (p ∷ free) p (the_first p free), (λ u. the_first t (p ∷ free), λ u. one_more t (p ∷ free) (block_number c.numbering c.returns) (one_more p free (block_number c.numbering c.returns) (h.1.1 u))))
 
-in_case_fits : (c : Context) (around : Around) (pos : Pos) (free : List ℕ) → Fits c around free → Fits (in_case c pos) (inside a_case around) (block_number c.numbering (path_at c.path pos) ∷ free)
+in_case_fits : (c : Context) (around : Enclosing) (pos : Pos) (free : List ℕ) → Fits c around free → Fits (in_case c pos) (inside a_case around) (block_number c.numbering (path_at c.path pos) ∷ free)
 in_case_fits c around pos free h =
     let p = block_number c.numbering (path_at c.path pos) in
     (λ u. the_first p free, (λ u. one_more p free (block_number c.numbering c.continues) (h.1.0 u), λ u. one_more p free (block_number c.numbering c.returns) (h.1.1 u)))
@@ -237,7 +237,7 @@ module _ (n : NamedProgram) (fs : List Function) (fine_named : (t : List ℕ) (f
     -- a loop in its blocks
     loop_good : (c : Context) (path : Path) (test : kernel.Expression) (rest : List kernel.Statement) (cn cb : Copy) (free : List ℕ) →
         Good c.numbering (block_number c.numbering path ∷ free) cn → Good c.numbering (block_number c.numbering (path_of_turn path) ∷ block_number c.numbering path ∷ free) cb →
-        ((around : List ℕ) → AllLeaveIn around (block_number c.numbering path ∷ free) (kernel.statements rest)) → Good c.numbering free (loop_at c path test (turn c path cb.code rest) (code_of cn) (joined cn cb))
+        ((around : List ℕ) → AllLeaveIn around (block_number c.numbering path ∷ free) (kernel.statements rest)) → Good c.numbering free (loop_at c path test (iteration c path cb.code rest) (code_of cn) (joined cn cb))
     loop_good c path test rest cn cb free hn hb hr d around v =
         let q = c.numbering in
         let p = block_number q path in
@@ -278,10 +278,10 @@ module _ (n : NamedProgram) (fs : List Function) (fine_named : (t : List ℕ) (f
     case_good c pos body free h d around v = good_block c.numbering free (path_at c.path pos) body h d around v
 
     mutual
-      pub statement_good : (s : tree.Statement) (c : Context) (scope : Scope) (around : Around) (k : ℕ) (free : List ℕ) → c.functions ≡ fs → Fits c around free → AllIn IsFine (site.of_statement n around k s) → Good c.numbering free (statement_copy copies s c scope)
+      pub statement_good : (s : tree.Statement) (c : Context) (scope : Scope) (around : Enclosing) (k : ℕ) (free : List ℕ) → c.functions ≡ fs → Fits c around free → AllIn IsFine (site.of_statement n around k s) → Good c.numbering free (statement_copy copies s c scope)
       statement_good (tree.statement a pos close own) c scope around k free e h g = action_good a pos close c scope around k free e h g
 
-      action_good : (a : tree.Action) (pos close : Pos) (c : Context) (scope : Scope) (around : Around) (k : ℕ) (free : List ℕ) → c.functions ≡ fs → Fits c around free → AllIn IsFine (site.of_action n around k pos a) → Good c.numbering free (action_copy copies a pos close c scope)
+      action_good : (a : tree.Action) (pos close : Pos) (c : Context) (scope : Scope) (around : Enclosing) (k : ℕ) (free : List ℕ) → c.functions ≡ fs → Fits c around free → AllIn IsFine (site.of_action n around k pos a) → Good c.numbering free (action_copy copies a pos close c scope)
       action_good tree.empty pos close c scope around k free e h g = good_none c.numbering free scope
       action_good (tree.block ss) pos close c scope around k free e h g = statements_good ss c scope (inside a_block around) k free e h g
       action_good (tree.declare ds) pos close c scope around k free e h g = declarations_good c ds scope e free
@@ -319,7 +319,7 @@ module _ (n : NamedProgram) (fs : List Function) (fine_named : (t : List ℕ) (f
           let x = maybe_good first c scope around k free e h g1.0 in
           let y = maybe_good next c cf.scope around _ (p ∷ free) e (fits_more c around free p h) g3.0 in
           let z = statement_good body (in_loop c pos) cf.scope (inside a_loop around) _ _ e (in_loop_fits c around pos free h) g3.1 in
-          good_both c.numbering free cf (loop_at c (path_at c.path pos) (test_or_true (maybe_expression c cf.scope test)) (turn c (path_at c.path pos) cb.code []) (code_of cn) (joined cn cb)) x
+          good_both c.numbering free cf (loop_at c (path_at c.path pos) (test_or_true (maybe_expression c cf.scope test)) (iteration c (path_at c.path pos) cb.code []) (code_of cn) (joined cn cb)) x
           (loop_good c (path_at c.path pos) (test_or_true (maybe_expression c cf.scope test)) [] cn cb free y z (λ ar. tt))
       action_good (tree.return_with r) pos close c scope around k free e h g = return_good c scope r e free (h.1.1 g.0.1)
       action_good tree.break_out pos close c scope around k free e h g = λ d ar v. (h.0 g.0, tt)
@@ -331,11 +331,11 @@ module _ (n : NamedProgram) (fs : List Function) (fine_named : (t : List ℕ) (f
       action_good (tree.transaction is_master ss) pos close c scope around k free e h g = λ d ar v.
           (statements_good ss c scope (inside a_transaction around) k [] e (λ u. never u, (λ u. never u, λ u. never (sym u))) g.1 d ar v, tt)
 
-      maybe_good : (s : tree.Maybe) (c : Context) (scope : Scope) (around : Around) (k : ℕ) (free : List ℕ) → c.functions ≡ fs → Fits c around free → AllIn IsFine (site.of_maybe n around k s) → Good c.numbering free (maybe_copy copies s c scope)
+      maybe_good : (s : tree.Maybe) (c : Context) (scope : Scope) (around : Enclosing) (k : ℕ) (free : List ℕ) → c.functions ≡ fs → Fits c around free → AllIn IsFine (site.of_maybe n around k s) → Good c.numbering free (maybe_copy copies s c scope)
       maybe_good tree.absent c scope around k free e h g = good_none c.numbering free scope
       maybe_good (tree.present s) c scope around k free e h g = statement_good s c scope around k free e h g
 
-      statements_good : (ss : tree.Statements) (c : Context) (scope : Scope) (around : Around) (k : ℕ) (free : List ℕ) → c.functions ≡ fs → Fits c around free → AllIn IsFine (site.of_statements n around k ss) → Good c.numbering free (statements_copy copies ss c scope)
+      statements_good : (ss : tree.Statements) (c : Context) (scope : Scope) (around : Enclosing) (k : ℕ) (free : List ℕ) → c.functions ≡ fs → Fits c around free → AllIn IsFine (site.of_statements n around k ss) → Good c.numbering free (statements_copy copies ss c scope)
       statements_good tree.no_more c scope around k free e h g = good_none c.numbering free scope
       statements_good (tree.more s ss) c scope around k free e h g =
           let g1 = split IsFine (site.of_statement n around k s) _ g in
@@ -343,12 +343,12 @@ module _ (n : NamedProgram) (fs : List Function) (fine_named : (t : List ℕ) (f
           good_both c.numbering free a (statements_copy copies ss c a.scope) (statement_good s c scope around k free e h g1.0) (statements_good ss c a.scope around (past k (marks.of_statement s)) free e h g1.1)
 
       -- a branch leaves no block that it stands in
-      pub branch_good : (b : tree.Branch) (c : Context) (scope : Scope) (around : Around) (k : ℕ) → c.functions ≡ fs → AllIn IsFine (site.of_branch n around k b) → Good c.numbering [] (branch_copy copies b c scope)
+      pub branch_good : (b : tree.Branch) (c : Context) (scope : Scope) (around : Enclosing) (k : ℕ) → c.functions ≡ fs → AllIn IsFine (site.of_branch n around k b) → Good c.numbering [] (branch_copy copies b c scope)
       branch_good (tree.branch place s) c scope around k e g =
           let g1 = split IsFine (site.optional (site.of_branch_place n around k) place) _ g in
           statement_good s c scope (inside a_branch around) _ [] e (λ u. never u, (λ u. never u, λ u. never (sym u))) g1.1
 
-      branches_good : (bs : tree.Branches) (index : ℕ) (c : Context) (scope : Scope) (around : Around) (k : ℕ) → c.functions ≡ fs → AllIn IsFine (site.of_branches n around k bs) → GoodBranches c.numbering (branches_copy copies bs index c scope)
+      branches_good : (bs : tree.Branches) (index : ℕ) (c : Context) (scope : Scope) (around : Enclosing) (k : ℕ) → c.functions ≡ fs → AllIn IsFine (site.of_branches n around k bs) → GoodBranches c.numbering (branches_copy copies bs index c scope)
       branches_good tree.no_branch index c scope around k e g d ar v = tt
       branches_good (tree.more_branches b bs) index c scope around k e g d ar v =
           let g1 = split IsFine (site.of_branch n around k b) _ g in
@@ -358,7 +358,7 @@ module _ (n : NamedProgram) (fs : List Function) (fine_named : (t : List ℕ) (f
             branches_good bs (index + 1) c a.scope around (past k (marks.of_branch b)) e g1.1 (apart_right c.numbering a.blocks rest.made.blocks d) ar (λ z i. v z (in_right z a.blocks rest.made.blocks i)),
           )
 
-      cases_good : (cs : tree.Cases) (c : Context) (scope : Scope) (around : Around) (k : ℕ) (free : List ℕ) → c.functions ≡ fs → Fits c around free → AllIn IsFine (site.of_cases n around k cs) → GoodCases c.numbering free (cases_copy copies cs c scope)
+      cases_good : (cs : tree.Cases) (c : Context) (scope : Scope) (around : Enclosing) (k : ℕ) (free : List ℕ) → c.functions ≡ fs → Fits c around free → AllIn IsFine (site.of_cases n around k cs) → GoodCases c.numbering free (cases_copy copies cs c scope)
       cases_good tree.no_case c scope around k free e h g d ar v = (tt, tt)
       cases_good (tree.more_cases (tree.case pos guard None ss) cs) c scope around k free e h g d ar v =
           let ms = marks.of_case (tree.case pos guard None ss) in
@@ -473,12 +473,12 @@ module _ (n : NamedProgram) (fs : List Function) (fine_named : (t : List ℕ) (f
     more_roots [] ys h g = g
     more_roots (x ∷ xs) ys h g = (h.0, more_roots xs ys h.1 g)
 
-    root_good : (main : Pos) (b : tree.Branch) (c : Context) (scope : Scope) (around : Around) (k : ℕ) → c.functions ≡ fs → AllIn IsFine (site.of_branch n around k b) → GoodRoots c.numbering (roots.branch_root copies main b c scope)
+    root_good : (main : Pos) (b : tree.Branch) (c : Context) (scope : Scope) (around : Enclosing) (k : ℕ) → c.functions ≡ fs → AllIn IsFine (site.of_branch n around k b) → GoodRoots c.numbering (roots.branch_root copies main b c scope)
     root_good main (tree.branch place s) c scope around k e g d =
         let x = record c { core = core_of scope place } in
         (branch_good copies calls (tree.branch place s) x scope around k e g d [] (nothing_around c.numbering (statement_copy copies s x scope).blocks), tt)
 
-    branch_roots_good : (main : Pos) (bs : tree.Branches) (index : ℕ) (c : Context) (scope : Scope) (around : Around) (k : ℕ) → c.functions ≡ fs → AllIn IsFine (site.of_branches n around k bs) → GoodRoots c.numbering (roots.branch_roots copies main bs index c scope)
+    branch_roots_good : (main : Pos) (bs : tree.Branches) (index : ℕ) (c : Context) (scope : Scope) (around : Enclosing) (k : ℕ) → c.functions ≡ fs → AllIn IsFine (site.of_branches n around k bs) → GoodRoots c.numbering (roots.branch_roots copies main bs index c scope)
     branch_roots_good main tree.no_branch index c scope around k e g d = tt
     branch_roots_good main (tree.more_branches b bs) index c scope around k e g d =
         let g1 = split IsFine (site.of_branch n around k b) _ g in
@@ -487,7 +487,7 @@ module _ (n : NamedProgram) (fs : List Function) (fine_named : (t : List ℕ) (f
         more_roots a.roots rest.roots (root_good main b (in_branch c index) scope around k e g1.0 (apart_left c.numbering a.made.blocks rest.made.blocks d))
         (branch_roots_good main bs (index + 1) c a.made.scope around (past k (marks.of_branch b)) e g1.1 (apart_right c.numbering a.made.blocks rest.made.blocks d))
 
-    numbered_roots_good : (main : Pos) (b : tree.Branch) (name : List ℕ) (c : Context) (scope : Scope) (around : Around) (k count index number : ℕ) → c.functions ≡ fs → AllIn IsFine (site.of_branch n around k b) → GoodRoots c.numbering (roots.numbered_roots copies main b name c scope count index number)
+    numbered_roots_good : (main : Pos) (b : tree.Branch) (name : List ℕ) (c : Context) (scope : Scope) (around : Enclosing) (k count index number : ℕ) → c.functions ≡ fs → AllIn IsFine (site.of_branch n around k b) → GoodRoots c.numbering (roots.numbered_roots copies main b name c scope count index number)
     numbered_roots_good main b name c scope around k zero index number e g d = tt
     numbered_roots_good main b name c scope around k (suc count) index number e g d =
         let inner = with_name scope name (a_constant number) in
@@ -496,13 +496,13 @@ module _ (n : NamedProgram) (fs : List Function) (fine_named : (t : List ℕ) (f
         more_roots a.roots rest.roots (root_good main b (in_branch c index) inner around k e g (apart_left c.numbering a.made.blocks rest.made.blocks d))
         (numbered_roots_good main b name c scope around k count (index + 1) (number + 1) e g (apart_right c.numbering a.made.blocks rest.made.blocks d))
 
-    action_roots_good : (main : Pos) (a : tree.Action) (pos : Pos) (c : Context) (scope : Scope) (around : Around) (k : ℕ) → c.functions ≡ fs → AllIn IsFine (site.of_action n around k pos a) → GoodRoots c.numbering (roots.action_roots copies main a c scope)
+    action_roots_good : (main : Pos) (a : tree.Action) (pos : Pos) (c : Context) (scope : Scope) (around : Enclosing) (k : ℕ) → c.functions ≡ fs → AllIn IsFine (site.of_action n around k pos a) → GoodRoots c.numbering (roots.action_roots copies main a c scope)
     action_roots_good main (tree.par bs) pos c scope around k e g d = branch_roots_good main bs 0 c scope around k e g.1 d
     action_roots_good main (tree.replicated first second third from until b) pos c scope around k e g d = numbered_roots_good main b first.text c scope around (k + 3) (until - from) 0 from e g.1.1 d
     action_roots_good main (tree.declare ds) pos c scope around k e g d = tt
     action_roots_good main other pos c scope around k e g d = tt
 
-    block_roots_good : (main : Pos) (ss : tree.Statements) (c : Context) (scope : Scope) (around : Around) (k : ℕ) → c.functions ≡ fs → AllIn IsFine (site.of_statements n around k ss) → GoodRoots c.numbering (roots.block_roots copies main ss c scope)
+    block_roots_good : (main : Pos) (ss : tree.Statements) (c : Context) (scope : Scope) (around : Enclosing) (k : ℕ) → c.functions ≡ fs → AllIn IsFine (site.of_statements n around k ss) → GoodRoots c.numbering (roots.block_roots copies main ss c scope)
     block_roots_good main tree.no_more c scope around k e g d = tt
     block_roots_good main (tree.more (tree.statement a pos close own) ss) c scope around k e g d =
         let g1 = split IsFine (site.of_action n around k pos a) _ g in

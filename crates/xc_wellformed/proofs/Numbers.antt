@@ -15,7 +15,7 @@ use Rattle.xc_kernel.specs.Scopes.{Scope, Entity}
 use Rattle.xc_kernel.specs.Expressions.{expression_in, kernel_place}
 use Rattle.xc_kernel.specs.Programs.{Function}
 use Rattle.xc_wellformed.specs.Stacks.{Stack, Resolves}
-use Rattle.xc_wellformed.specs.Standing.{HasVariable, Stands, a_variable, whole_array, word_referred, element_referred, array_referred, the_channel, the_end, the_timer, the_port, port_given, the_index, the_function, none_there, Agrees}
+use Rattle.xc_wellformed.specs.Denotes.{HasVariable, Denotes, a_variable, whole_array, word_referred, element_referred, array_referred, the_channel, the_end, the_timer, the_port, port_given, the_index, the_function, none_there, Agrees}
 use Rattle.xc_kernel.specs.Expressions.{place_of_entity, word_of_entity, array_number, form_in}
 use Rattle.xc_wellformed.specs.Numbers.{NumbersInExpression, NumbersInPlace}
 use Rattle.xc_wellformed.proofs.Stacks.{quiet_split, quiet_expression}
@@ -30,7 +30,7 @@ module _ (n : NamedProgram) (fs : List Function) (ps : List PortUse) (num : Numb
   Known st scope = Agrees n fs ps num (H here) (J here) st scope
 
   abbrev Standing : List ℕ → Option What → Entity → Type 0
-  Standing t w e = Stands n fs ps num (H here) (J here) t w e
+  Standing t w e = Denotes n fs ps num (H here) (J here) t w e
 
   pub word_well : (t : List ℕ) (w : Option What) (x : Entity) (pos : Pos) → Standing t w x → is_word w ≡ true → NumbersInExpression W (word_of_entity num pos x)
   word_well t _ _ pos (a_variable {path = path} h) e = listed path false 1 (λ q. refl) h

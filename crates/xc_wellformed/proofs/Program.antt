@@ -12,7 +12,7 @@ use Rattle.xc_tree.specs.Names.Marks as marks
 use Rattle.xc_tree.specs.Names.Rules as names
 use Rattle.xc_tree.specs.Types.Named.{NamedProgram, what_of, function_of, head_of_item}
 use Rattle.xc_tree.specs.Types.Sites as site
-use Rattle.xc_tree.specs.Shapes.Around.{is_main, is_empty}
+use Rattle.xc_tree.specs.Shapes.Enclosing.{is_main, is_empty}
 use Rattle.xc_kernel.specs.declared.kernel.PortUse.{PortUse}
 use Rattle.xc_kernel.specs.Plain as kernel
 use Rattle.xc_kernel.specs.declared.kernel.Var.{Var}
@@ -30,7 +30,7 @@ use Rattle.xc_kernel.specs.Sound.{IsTyped}
 use Rattle.xc_meaning.specs.Texts.Called.{GoesWithin}
 use Rattle.xc_meaning.proofs.Recursion.End.{calls_end}
 use Rattle.xc_wellformed.specs.Stacks.{Frame, outer, found_in}
-use Rattle.xc_wellformed.specs.Standing.{AnyPath, head_of, Agrees, Stands, a_variable, whole_array, word_referred, element_referred, array_referred, the_channel, the_end, the_timer, the_port, port_given, the_index, the_function, none_there}
+use Rattle.xc_wellformed.specs.Denotes.{AnyPath, head_of, Agrees, Denotes, a_variable, whole_array, word_referred, element_referred, array_referred, the_channel, the_end, the_timer, the_port, port_given, the_index, the_function, none_there}
 use Rattle.xc_wellformed.specs.Each.{EachRoot, EachRootOn}
 use Rattle.xc_wellformed.specs.Exits.{EachRootLeaves}
 use Rattle.xc_wellformed.specs.Rising.{IsRising}
@@ -161,7 +161,7 @@ module _ (P : List tree.Item) (n : NamedProgram) where
       FindsFunction t (Some (what.Func g)) = function_of n (Some (what.Func g)) ≡ option_map head_of (function_named fs t)
       FindsFunction t other = Unit {0}
 
-      finds : (t : List ℕ) (w : Option What) (e : Entity) → Stands n fs ps num (H 0) (J 0) t w e → FindsFunction t w
+      finds : (t : List ℕ) (w : Option What) (e : Entity) → Denotes n fs ps num (H 0) (J 0) t w e → FindsFunction t w
       unfolding FindsFunction
       finds t _ _ (the_function h) = h
       finds t _ _ (a_variable h) = tt

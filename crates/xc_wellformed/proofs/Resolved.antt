@@ -16,7 +16,7 @@ use Rattle.xc_tree.specs.Names.Rules as names
 use Rattle.xc_tree.specs.Names.Uses.{Entries, AreUses, IsUse, none, past_begin, past_end, declared, used, declarations, number_of}
 use Rattle.xc_tree.specs.Types.Named.{NamedProgram, past}
 use Rattle.xc_kernel.specs.Sound.{IsTyped}
-use Rattle.xc_wellformed.specs.Stacks.{declared_at, Frame, Stack, decl_by, found_in, found, IsFresh, IsNew, Resolves, outer}
+use Rattle.xc_wellformed.specs.Stacks.{declared_at, Frame, Stack, decl_by, found_in, found, IsUndeclared, IsNew, Resolves, outer}
 use Rattle.xc_meaning.proofs.Recursion.Scopes as scopes
 use Rattle.xc_meaning.proofs.Recursion.Scopes.{Inner, to_end_past}
 use Rattle.xc_meaning.proofs.Recursion.Uses.{past_both, one_further, numbered, Entry, below_or_at, at_end, longer, next}
@@ -193,7 +193,7 @@ module _ (all : List Mark) where
     shift_on : (v l w : ℕ) → v + suc l ≡ w → suc v + l ≡ w
     shift_on v l w e = omega arith
 
-    fresh_in : (x : Decl) (v : ℕ) (f : Frame) (e : ℕ) → slice_get all v ≡ Some (Declares x) → end_of all v ≡ e → e < length all → Held v e f → IsFresh x.name.text f
+    fresh_in : (x : Decl) (v : ℕ) (f : Frame) (e : ℕ) → slice_get all v ≡ Some (Declares x) → end_of all v ≡ e → e < length all → Held v e f → IsUndeclared x.name.text f
     fresh_in x v [] e at_v own inner h = tt
     fresh_in x v (y ∷ f) e at_v own inner h = (by (bytes_eq y.name.text x.name.text) refl h.0.seen, fresh_in x v f e at_v own inner h.1)
       where

@@ -10,7 +10,7 @@ use Rattle.xc_kernel.specs.Paths.{Path}
 use Rattle.xc_kernel.specs.Numbering.{Numbering, variable_number}
 use Rattle.xc_kernel.specs.Programs.{Function}
 use Rattle.xc_wellformed.specs.Numbers.{IsVariable, IsListed, NumbersInExpression, NumbersInPlace}
-use Rattle.xc_wellformed.specs.Standing.{HasVariable}
+use Rattle.xc_wellformed.specs.Denotes.{HasVariable}
 use Rattle.xc_wellformed.specs.Operands.{HasOperands, PlaceHasOperands, IsProper}
 use Rattle.xc_wellformed.specs.Levels.{levels, IsLow, IsLowPlace}
 use Rattle.xc_wellformed.proofs.Shaped.{IsLval, Assigns}

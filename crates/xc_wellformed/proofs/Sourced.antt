@@ -27,7 +27,7 @@ use Rattle.xc_wellformed.specs.Each.{AnyNumber, EachRoot}
 use Rattle.xc_wellformed.specs.Rising.{IsRising}
 use Rattle.xc_wellformed.proofs.Rising.{of_text}
 use Rattle.xc_wellformed.specs.Stacks.{Stack, Resolves}
-use Rattle.xc_wellformed.specs.Standing.{AnyPath, Stands, a_variable, whole_array, word_referred, element_referred, array_referred, the_channel, the_end, the_timer, the_port, port_given, the_index, the_function, none_there, Agrees}
+use Rattle.xc_wellformed.specs.Denotes.{AnyPath, Denotes, a_variable, whole_array, word_referred, element_referred, array_referred, the_channel, the_end, the_timer, the_port, port_given, the_index, the_function, none_there, Agrees}
 use Rattle.xc_wellformed.specs.Sources.{typed, typed_form, typed_place, Simple, copied, result, always, HasSource, simple, updated, stepped, tested, PlaceHasSource, placed, own, OutputHasSource, InputHasSource}
 use Rattle.xc_wellformed.specs.Laws.{CodeHasSource}
 use Rattle.xc_wellformed.proofs.Shaped.{IsLval, Assigns}
@@ -39,7 +39,7 @@ use Rattle.xc_wellformed.proofs.Program.{roots_alike}
 
 module _ (n : NamedProgram) (fs : List Function) (ps : List PortUse) (num : Numbering) (H J : ℕ → Path → Type 0) (here : ℕ) where
   -- what stands for a name has its type
-  word_type : (t : List ℕ) (w : Option What) (x : Entity) → Stands n fs ps num (H here) (J here) t w x → word_is_unsigned (type_of_entity x) ≡ entities.word_is_unsigned w
+  word_type : (t : List ℕ) (w : Option What) (x : Entity) → Denotes n fs ps num (H here) (J here) t w x → word_is_unsigned (type_of_entity x) ≡ entities.word_is_unsigned w
   word_type t _ _ (a_variable h) = refl
   word_type t _ _ (whole_array h) = refl
   word_type t _ _ (word_referred h) = refl
@@ -54,7 +54,7 @@ module _ (n : NamedProgram) (fs : List Function) (ps : List PortUse) (num : Numb
   word_type t _ _ (the_function h) = refl
   word_type t _ _ none_there = refl
 
-  array_type : (t : List ℕ) (w : Option What) (x : Entity) → Stands n fs ps num (H here) (J here) t w x → elements_are_unsigned (type_of_entity x) ≡ entities.elements_are_unsigned w
+  array_type : (t : List ℕ) (w : Option What) (x : Entity) → Denotes n fs ps num (H here) (J here) t w x → elements_are_unsigned (type_of_entity x) ≡ entities.elements_are_unsigned w
   array_type t _ _ (a_variable h) = refl
   array_type t _ _ (whole_array h) = refl
   array_type t _ _ (word_referred h) = refl

@@ -11,7 +11,7 @@ use Rattle.xc_tree.specs.Types.Entities.{is_channel}
 use Rattle.xc_tree.specs.Types.Calls.{first_of, rest_of}
 use Rattle.xc_tree.specs.Types.Sites.{Site, communications}
 use Rattle.xc_tree.specs.Types.Sites as site
-use Rattle.xc_tree.specs.Shapes.Around.{Around}
+use Rattle.xc_tree.specs.Shapes.Enclosing.{Enclosing}
 use Rattle.xc_tree.specs.Shapes.Rules.{channels, are_one}
 use Rattle.xc_kernel.specs.Paths.{Path}
 use Rattle.xc_kernel.specs.Scopes.{Scope}
@@ -117,11 +117,11 @@ module _ (n : NamedProgram) where
   silent_arguments k ps [] = refl
   silent_arguments k ps (a ∷ rest) = silent_both (site.of_argument n k (first_of ps) a.value) _ (silent_argument k (first_of ps) a.value) (silent_arguments (past k (marks.of_argument a)) (rest_of ps) rest)
 
-  pub silent_right : (around : Around) (k : ℕ) (b : Bool) (r : tree.RightSide) → talks (site.of_right n around k b r) ≡ false
+  pub silent_right : (around : Enclosing) (k : ℕ) (b : Bool) (r : tree.RightSide) → talks (site.of_right n around k b r) ≡ false
   silent_right around k b (tree.value e) = silent_expression k e
   silent_right around k b (tree.result call) = silent_arguments _ _ call.arguments
 
-  pub silent_maybe_right : (around : Around) (k : ℕ) (o : Option tree.RightSide) → talks (site.optional (site.of_right n around k true) o) ≡ false
+  pub silent_maybe_right : (around : Enclosing) (k : ℕ) (o : Option tree.RightSide) → talks (site.optional (site.of_right n around k true) o) ≡ false
   silent_maybe_right around k None = refl
   silent_maybe_right around k (Some r) = silent_right around k true r
 
@@ -129,13 +129,13 @@ module _ (n : NamedProgram) where
   silent_maybe_expression k None = refl
   silent_maybe_expression k (Some e) = silent_expression k e
 
-  silent_kind : (around : Around) (k : ℕ) (kind : tree.Kind) → talks (site.of_kind n around k kind) ≡ false
+  silent_kind : (around : Enclosing) (k : ℕ) (kind : tree.Kind) → talks (site.of_kind n around k kind) ≡ false
   silent_kind around k (tree.word u r) = silent_maybe_right around k r
   silent_kind around k (tree.array u l p) = refl
   silent_kind around k (tree.channel s) = refl
   silent_kind around k tree.timer = refl
 
-  pub silent_declarations : (around : Around) (k : ℕ) (ds : List tree.Declaration) → talks (site.of_declarations n around k ds) ≡ false
+  pub silent_declarations : (around : Enclosing) (k : ℕ) (ds : List tree.Declaration) → talks (site.of_declarations n around k ds) ≡ false
   silent_declarations around k [] = refl
   silent_declarations around k (d ∷ ds) = silent_both (site.of_kind n around _ d.kind) _ (silent_kind around _ d.kind) (silent_declarations around (past k (marks.of_declaration d)) ds)
 

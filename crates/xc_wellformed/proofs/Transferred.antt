@@ -20,7 +20,7 @@ use Rattle.xc_kernel.specs.Programs.{Function}
 use Rattle.xc_kernel.specs.Context.{Context}
 use Rattle.xc_kernel.specs.Transfers.{time_of, stamp_of, condition_of, output_of, input_of, behind_target}
 use Rattle.xc_wellformed.specs.Stacks.{Stack, Resolves}
-use Rattle.xc_wellformed.specs.Standing.{HasPort, Stands, a_variable, whole_array, word_referred, element_referred, array_referred, the_channel, the_end, the_timer, the_port, port_given, the_index, the_function, none_there, Agrees}
+use Rattle.xc_wellformed.specs.Denotes.{HasPort, Denotes, a_variable, whole_array, word_referred, element_referred, array_referred, the_channel, the_end, the_timer, the_port, port_given, the_index, the_function, none_there, Agrees}
 use Rattle.xc_tree.specs.Types.Entities.{drives, reads}
 use Rattle.xc_kernel.specs.declared.statement.KRes.{KRes}
 use Rattle.xc_kernel.specs.Expressions.{resource_of}
@@ -34,7 +34,7 @@ module _ (n : NamedProgram) (fs : List Function) (ps : List PortUse) (num : Numb
   Known st scope = Agrees n fs ps num (H here) (J here) st scope
 
   abbrev Standing : List ℕ → Option What → Entity → Type 0
-  Standing t w e = Stands n fs ps num (H here) (J here) t w e
+  Standing t w e = Denotes n fs ps num (H here) (J here) t w e
 
   none_by : {A : Type 0} (o : Option A) → (is_some o ≡ true → false ≡ true) → IsNothing o
   none_by None h = tt

@@ -18,7 +18,7 @@ use Rattle.xc_kernel.specs.Parameters.{Passed, passed, all_passed, by_element, f
 use Rattle.xc_kernel.specs.Calls.{CopiesCall, instance_of, result_copy, function_copy, path_of_call, called, call_by, right_copy}
 use Rattle.xc_kernel.specs.Declarations.{initial_copy, kind_copy, declarations_copy}
 use Rattle.xc_kernel.specs.Transfers.{target_copy, input_names}
-use Rattle.xc_kernel.specs.Flow.{loop_at, turn, test_or_true, for_copy, numbered_copy, replicated, case_scope, case_made}
+use Rattle.xc_kernel.specs.Flow.{loop_at, iteration, test_or_true, for_copy, numbered_copy, replicated, case_scope, case_made}
 use Rattle.xc_kernel.specs.Statements.{pos_of_branch, assign_by, return_copy, statement_copy, action_copy, maybe_copy, statements_copy, branch_copy, branches_copy, cases_copy, calls_copy}
 use Rattle.xc_kernel.specs.Roots as roots
 use Rattle.xc_kernel.specs.Ports.{core_of}
@@ -344,7 +344,7 @@ module _ (copies : CopiesCall) (calls : CallsApart copies) where
         let cn = maybe_copy copies next c cf.scope in
         let cb = statement_copy copies body (in_loop c pos) cf.scope in
         let inner = two c.path (of_maybe next) (of_statement body) cn cb g.apart (maybe_apart next c cf.scope fs g.left) (statement_apart body (in_loop c pos) cf.scope fs g.right) in
-        let looped = loop_apart c.path pos nb c (test_or_true (maybe_expression c cf.scope test)) (turn c (path_at c.path pos) cb.code []) (code_of cn) (joined cn cb) d.0 (λ i. d.1.0 (in_right pos ff nb i)) inner in
+        let looped = loop_apart c.path pos nb c (test_or_true (maybe_expression c cf.scope test)) (iteration c (path_at c.path pos) cb.code []) (code_of cn) (joined cn cb) d.0 (λ i. d.1.0 (in_right pos ff nb i)) inner in
         let whole = two c.path ff (pos ∷ nb) cf (for_copy c pos cf.scope test cn cb) (first_apart ff nb pos d.1.0 h.apart) (maybe_apart first c scope fs h.left) looped in
         same c.path (pos ∷ (ff ++ nb)) _ _ refl refl refl refl (wider c.path (ff ++ (pos ∷ nb)) (pos ∷ (ff ++ nb)) _ (moved ff nb pos) whole)
     action_apart (tree.return_with r) pos close c scope fs d = return_apart c scope r fs d

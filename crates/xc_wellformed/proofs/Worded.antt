@@ -25,7 +25,7 @@ use Rattle.xc_kernel.specs.Copies.{numbering}
 use Rattle.xc_meaning.specs.Texts.Words.{array_variable, index_below, spot_of_place, value, value_of_form, updated_value, index_value, spot}
 use Rattle.xc_meaning.proofs.Words.{entity_value, entity_spot, element_is, array_spot}
 use Rattle.xc_wellformed.specs.Stacks.{found}
-use Rattle.xc_wellformed.specs.Standing.{AnyPath, HasVariable, Stands, a_variable, whole_array, word_referred, element_referred, array_referred, the_channel, the_end, the_timer, the_port, port_given, the_index, the_function, none_there}
+use Rattle.xc_wellformed.specs.Denotes.{AnyPath, HasVariable, Denotes, a_variable, whole_array, word_referred, element_referred, array_referred, the_channel, the_end, the_timer, the_port, port_given, the_index, the_function, none_there}
 use Rattle.xc_wellformed.specs.Sources.{typed, typed_form, Where}
 use Rattle.xc_wellformed.specs.Words.{HasWords, StandsHere, WordsKept, UpdatesKept, StepsKept, SpotsKept}
 use Rattle.xc_wellformed.proofs.Sourced as sourced
@@ -94,7 +94,7 @@ module _ (P : List tree.Item) (n : NamedProgram) (there : Where P n) (store : St
   LongAs (an_array path l u) = HasVariable num AnyPath path true l
   LongAs other = Unit {0}
 
-  long_as : (t : List ℕ) (w : Option What) (x : Entity) → Stands n fs ps num AnyPath AnyPath t w x → LongAs x
+  long_as : (t : List ℕ) (w : Option What) (x : Entity) → Denotes n fs ps num AnyPath AnyPath t w x → LongAs x
   long_as t _ _ (a_variable h) = tt
   long_as t _ _ (whole_array h) = h
   long_as t _ _ (word_referred h) = tt

@@ -10,7 +10,7 @@ pub mod Rising
 pub mod Once
 pub mod WellFormed
 pub mod Stacks
-pub mod Standing
+pub mod Denotes
 pub mod Sources
 pub mod Words
 pub mod Given

@@ -18,7 +18,7 @@ use Rattle.xc_kernel.specs.Programs.{functions, ports}
 use Rattle.xc_kernel.specs.Ports.{port_use}
 use Rattle.xc_kernel.specs.Copies.{numbering}
 use Rattle.xc_wellformed.specs.Stacks.{Stack, Resolves}
-use Rattle.xc_wellformed.specs.Standing.{AnyPath, HasVariable, Agrees}
+use Rattle.xc_wellformed.specs.Denotes.{AnyPath, HasVariable, Agrees}
 
 -- The kernel's expression for one of the text, before which the text has k names: its names stand
 -- for these entities, and its operations have the types of their operands in the text.

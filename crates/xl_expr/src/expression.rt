@@ -205,8 +205,8 @@ fn put_one_tail(e: &mut Emitter, operator: Operator, pos: Pos) -> Result<(), Mem
 {
     match operator {
         Operator::Minus => e.put_all(&[Instr::Neg(Reg::R0, Reg::R0)], pos),
-        Operator::Flip => e.put_all(&[Instr::Not(Reg::R0, Reg::R0)], pos),
-        Operator::NotTrue => put_negated(e, pos),
+        Operator::BitNot => e.put_all(&[Instr::Not(Reg::R0, Reg::R0)], pos),
+        Operator::Not => put_negated(e, pos),
         _ => Ok(()),
     }
 }
@@ -239,8 +239,8 @@ fn put_after_main(
     ensures refused { OnErr result (Extends e.old e.new) }
 {
     match operator {
-        Operator::Differs | Operator::AtMost | Operator::AtLeast => put_negated(e, pos),
-        Operator::BelowLength => put_index_if(e, a, b, pos),
+        Operator::Ne | Operator::AtMost | Operator::AtLeast => put_negated(e, pos),
+        Operator::BoundsCheck => put_index_if(e, a, b, pos),
         _ => Ok(()),
     }
 }
@@ -341,11 +341,11 @@ fn emit_two(
     ensures refused { OnErr result (Extends e.old e.new) }
 {
     match operation.operator {
-        Operator::Both => {
+        Operator::And => {
             emit_at(e, plan, first, k, last)?;
             emit_short(e, plan, Instr::Brff(Reg::R0, 0), second, operation.pos, k)
         }
-        Operator::Either => {
+        Operator::Or => {
             emit_at(e, plan, first, k, last)?;
             emit_short(e, plan, Instr::Brft(Reg::R0, 0), second, operation.pos, k)
         }

@@ -29,15 +29,15 @@ pub fn main_instr(operator: Operator, unsigned: bool, a: Reg, b: Reg) -> Instr
         Operator::BitXor => Instr::Xor(Reg::R0, a, b),
         Operator::ShiftUp => Instr::Shl(Reg::R0, a, b),
         Operator::ShiftDown => shift_instr(unsigned, a, b),
-        Operator::Equal | Operator::Differs => Instr::Eq(Reg::R0, a, b),
+        Operator::Equal | Operator::Ne => Instr::Eq(Reg::R0, a, b),
         Operator::Less | Operator::AtLeast => less_instr(unsigned, a, b),
         Operator::Greater | Operator::AtMost => less_instr(unsigned, b, a),
-        Operator::BelowLength => Instr::Lsu(b, a, b),
-        Operator::Choose
-        | Operator::Flip
-        | Operator::NotTrue
-        | Operator::Both
-        | Operator::Either
+        Operator::BoundsCheck => Instr::Lsu(b, a, b),
+        Operator::Cond
+        | Operator::BitNot
+        | Operator::Not
+        | Operator::And
+        | Operator::Or
         | Operator::NoOperator => Instr::Ldc(Reg::R0, 0),
     }
 }

@@ -9,7 +9,7 @@ use Rattle.xc_tree.specs.Grammar.{Rule, Extent, rules, kept, declared, named as 
 use Rattle.xc_tree.specs.Derives.{Room, extent, Derives, a_sym, a_key, named, counted, by_rule, Row, done, next}
 use Rattle.xl_image.proofs.TodayRules.{EachRule, none, ◌&◌, among_each}
 use Rattle.xc_wellformed.proofs.Grammar.{AllOf, MaybeOf}
-use Rattle.xc_today.specs.Today.{later_words, IsNoneOf, IsOfToday, AreOfToday}
+use Rattle.xc_today.specs.Today.{later_words, IsNoneOf, KindIsSupported, TokensAreSupported}
 
 -- no timer is declared
 abbrev pub IsEarlyKind : plain.Kind → Type 0
@@ -174,12 +174,12 @@ all_keep assign = (λ e x g. tt) & (λ e x g. tt) & (λ e x g. tt) & (λ e x g. 
 all_keep s = nothing (rules s)
 
 -- a token of these
-pub of_today : (toks : List Tok) (i : ℕ) (t : Tok) → AreOfToday toks → slice_get toks i ≡ Some t → IsOfToday t.kind
+pub of_today : (toks : List Tok) (i : ℕ) (t : Tok) → TokensAreSupported toks → slice_get toks i ≡ Some t → KindIsSupported t.kind
 of_today [] i t h e = absurd (cc)
-of_today (x ∷ xs) zero t h e = let g : x ≡ t = cc in subst (λ (y : Tok). IsOfToday y.kind) g h.0
+of_today (x ∷ xs) zero t h e = let g : x ≡ t = cc in subst (λ (y : Tok). KindIsSupported y.kind) g h.0
 of_today (x ∷ xs) (suc i) t h e = of_today xs i t h.1 e
 
-module _ (toks : List Tok) (today : AreOfToday toks) where
+module _ (toks : List Tok) (today : TokensAreSupported toks) where
   mutual
     good : {room : Room} {s : Symbol} {i j : ℕ} {v : Value s} → Derives toks room s i j v → Good s v
     good (a_sym on) = tt

@@ -12,7 +12,7 @@ use Rattle.xc_tree.specs.Symbol.{Symbol, sym, key, a_name, a_number, many, maybe
 use Rattle.xc_tree.specs.Grammar.{Rule, Extent, rules, kept, one_of, operators}
 use Rattle.xc_tree.specs.Derives.{Room, extent, Derives, IsProgram, a_sym, a_key, named, counted, by_rule, Row, done, next}
 use Rattle.xc_wellformed.proofs.Grammar.{AllOf, MaybeOf}
-use Rattle.xc_today.specs.Today.{later_words, AreOfToday, is_word, PortsAreOut, IsBuiltToday}
+use Rattle.xc_today.specs.Today.{later_words, TokensAreSupported, is_word, PortsAreOut, IsSupported}
 use Rattle.xl_image.specs.TodayLaws.{IsOutKind, AreOutParams, IsOutItem, AreOutItems, PortsGoOut}
 use Rattle.xl_image.proofs.TodayEarly.{no_one, of_today}
 use Rattle.xl_image.proofs.TodayRules.{EachRule, none, ◌&◌, among_each}
@@ -146,11 +146,11 @@ is_key toks room w i j v (by_rule {r} a h row f) = let there = a.there in absurd
 fresh_key : (toks : List Tok) (w i j : ℕ) → nat_eq w words.out_word ≡ false → IsKey toks w i j → IsFresh toks j
 fresh_key toks w i j e k = subst (IsFresh toks) (back k.ends) (fresh_behind toks i k.token k.there (ap (is_word words.out_word) k.is ∙ e))
 
-module _ (toks : List Tok) (today : AreOfToday toks) (ports : PortsAreOut false toks) where
+module _ (toks : List Tok) (today : TokensAreSupported toks) (ports : PortsAreOut false toks) where
   in_dir : Holds toks (λ d. d ≡ Out) (Rattle.xc_tree.specs.Grammar.gives (key words.in_word ∷ key words.port_word ∷ []) (λ x. In))
   in_dir room i j vs (next d rest) f e =
       let k = is_key toks room words.in_word i _ _ d in
-      absurd (no_one later_words 0 words.in_word refl (subst Rattle.xc_today.specs.Today.IsOfToday k.is (of_today toks i k.token today k.there)))
+      absurd (no_one later_words 0 words.in_word refl (subst Rattle.xc_today.specs.Today.KindIsSupported k.is (of_today toks i k.token today k.there)))
 
   out_dir : Holds toks (λ d. d ≡ Out) (Rattle.xc_tree.specs.Grammar.gives (key words.out_word ∷ key words.port_word ∷ []) (λ x. Out))
   out_dir room i j vs (next d (next p done)) f e = (fresh_key toks words.port_word _ _ refl (is_key toks room words.port_word _ _ _ p), refl)

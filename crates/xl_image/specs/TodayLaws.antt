@@ -13,14 +13,14 @@ use Rattle.xc_kernel.specs.Copies.{Copies}
 use Rattle.xc_kernel.specs.Plain as kernel
 use Rattle.xc_kernel.specs.Sound.{IsTyped}
 use Rattle.xl_image.specs.Roots.{KernelIsBuilt}
-use Rattle.xc_today.specs.Today.{IsBuiltToday}
+use Rattle.xc_today.specs.Today.{IsSupported}
 
 -- Where tokens are a program that is built today, which breaks no rule of names, types and shapes, and whose tree no node is too
 -- deep in, its kernel is built so far: the code of each root is, and both sides of each channel are on one core.
 abbrev pub KernelsAreBuilt : Type 0
 KernelsAreBuilt =
     (toks : List Tok) (P : List tree.Item) (n : NamedProgram) (types : List Bool) (K : kernel.Kernel) →
-    IsProgram toks P → depth.of_program P ≤ deepest → IsBuiltToday toks P → IsTyped P n types → Copies P K →
+    IsProgram toks P → depth.of_program P ≤ deepest → IsSupported toks P → IsTyped P n types → Copies P K →
     KernelIsBuilt K
 
 -- where it is a port, a parameter is an `out port`
@@ -43,4 +43,4 @@ AreOutItems (item ∷ items) = IsOutItem item × AreOutItems items
 
 -- The ports of a program that is built today, and its parameters that are ports, are `out port`.
 abbrev pub PortsGoOut : Type 0
-PortsGoOut = (toks : List Tok) (P : List tree.Item) → IsProgram toks P → IsBuiltToday toks P → AreOutItems P
+PortsGoOut = (toks : List Tok) (P : List tree.Item) → IsProgram toks P → IsSupported toks P → AreOutItems P

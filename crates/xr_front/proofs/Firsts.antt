@@ -14,7 +14,7 @@ use Rattle.xc_disjoint.specs.Rules.{Breaks as BreaksInNeeds}
 use Rattle.xc_kernel.specs.Copies.{Copies, copy_of}
 use Rattle.xc_kernel.specs.Plain.{Kernel}
 use Rattle.xc_kernel.specs.Size.{Breaks509, IsTooLarge}
-use Rattle.xc_today.specs.Today.{IsBuiltToday}
+use Rattle.xc_today.specs.Today.{IsSupported}
 use Rattle.xc_lexer.proofs.Rows.{tokens_one, tokens_unbroken}
 use Rattle.xr_front.specs.Rules.{Breaks, of_bytes, of_form, of_names, of_needs, of_size, of_tokens, of_types, First, IsAccepted, IsCopied, IsEarlier, IsResolved, IsShaped, IsTree, Phase, Form, Bytes, Tokens, Names, Types, Size, Needs, end_of, not_built}
 use Rattle.xr_front.proofs.Meanings.{named_one}
@@ -67,7 +67,7 @@ module _ (text : List ℕ) (toks : List Tok) (lexes : Lexes text toks) where
     abbrev tree : IsTree text items
     tree = record { toks = toks; lexes = lexes; derives = derives; unbroken = unbroken }
 
-    pub first_of_form : (IsBuiltToday toks items → ⊥) → First text not_built
+    pub first_of_form : (IsSupported toks items → ⊥) → First text not_built
     first_of_form not = record { phase = Form; breaks = of_form items tree not; least = least }
       where
         least : (later : Phase) (other : Broken) → Breaks text later other → IsEarlier Form later ⊎ ((Form ≡ later) × IsNotAfter not_built other)
@@ -85,13 +85,13 @@ module _ (text : List ℕ) (toks : List Tok) (lexes : Lexes text toks) where
     no_tokens : (others : List Tok) (rule i : ℕ) → Lexes text others → BreaksRule others rule i → ⊥
     no_tokens others rule i l breaks = unbroken rule i (subst (λ ts. BreaksRule ts rule i) (same others l) breaks)
 
-    module _ (only : (v : List Item) → IsProgram toks v → v ≡ items) (form : IsBuiltToday toks items) where
+    module _ (only : (v : List Item) → IsProgram toks v → v ≡ items) (form : IsSupported toks items) where
       one_tree : (others : List Item) → IsTree text others → others ≡ items
       one_tree others t = only others (subst (λ ts. IsProgram ts others) (same t.toks t.lexes) t.derives)
 
-      no_other_form : (others : List Item) (t : IsTree text others) → (IsBuiltToday t.toks others → ⊥) → ⊥
+      no_other_form : (others : List Item) (t : IsTree text others) → (IsSupported t.toks others → ⊥) → ⊥
       no_other_form others t not =
-          not (subst (λ ts. IsBuiltToday ts others) (sym (same t.toks t.lexes)) (subst (IsBuiltToday toks) (sym (one_tree others t)) form))
+          not (subst (λ ts. IsSupported ts others) (sym (same t.toks t.lexes)) (subst (IsSupported toks) (sym (one_tree others t)) form))
 
       pub first_in_names : (b : Broken) → IsFirst (BreaksInNames items) b → First text b
       first_in_names b f = record { phase = Names; breaks = of_names items b tree f.breaks; least = least }

@@ -25,7 +25,7 @@ use Rattle.xc_kernel.specs.Plain.{Kernel}
 use Rattle.xc_kernel.specs.Size.{Breaks509, IsTooLarge}
 use Rattle.xc_kernel.specs.Sound.{IsOfText, IsTyped}
 use Rattle.xl_image.proofs.TodayBuilt.{kernels_are_built}
-use Rattle.xc_today.specs.Today.{IsBuiltToday}
+use Rattle.xc_today.specs.Today.{IsSupported}
 use Rattle.xl_image.specs.Roots.{KernelIsBuilt}
 use Rattle.xr_front.specs.Reads.{IsReadAs}
 use Rattle.xr_front.specs.Rules.{First, IsKernelOf, IsResolved}
@@ -34,7 +34,7 @@ use Rattle.xr_front.proofs.Firsts.{accepts, first_in_names, first_in_needs, firs
 
 pub read_as : (text : List ℕ) (toks : List Tok) (items : List Item) → Lexes text toks → Rise toks → IsProgram toks items →
     ((v : List Item) → IsProgram toks v → v ≡ items) → ((rule i : ℕ) → BreaksRule toks rule i → ⊥) →
-    depth.of_program items ≤ deepest → IsBuiltToday toks items → IsReadAs text items
+    depth.of_program items ≤ deepest → IsSupported toks items → IsReadAs text items
 read_as text toks items lexes rising derives only unbroken shallow form = record {
   toks = toks;
   lexes = lexes;

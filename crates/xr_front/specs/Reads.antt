@@ -7,7 +7,7 @@ use Rattle.xc_tree.specs.Lexes.{Lexes}
 use Rattle.xc_tree.specs.Parses.{BreaksRule}
 use Rattle.xc_tree.specs.Plain.{Item}
 use Rattle.xc_tree.specs.Programs.{Rise}
-use Rattle.xc_today.specs.Today.{IsBuiltToday}
+use Rattle.xc_today.specs.Today.{IsSupported}
 
 -- a text has these tokens, which are this program alone, and it breaks no rule up to names
 pub record IsReadAs (text : List ℕ) (items : List Item) : Type 0 where
@@ -19,4 +19,4 @@ pub record IsReadAs (text : List ℕ) (items : List Item) : Type 0 where
   pub only : (v : List Item) → IsProgram toks v → v ≡ items
   pub unbroken : (rule i : ℕ) → BreaksRule toks rule i → ⊥
   pub shallow : depth.of_program items ≤ deepest
-  pub form : IsBuiltToday toks items
+  pub form : IsSupported toks items

@@ -16,7 +16,7 @@ use Rattle.xc_kernel.specs.Plain.{Kernel}
 use Rattle.xc_kernel.specs.Sound.{IsTyped}
 use Rattle.xc_kernel.specs.Size.{Breaks509, IsTooLarge}
 use Rattle.xc_disjoint.specs.Rules.{Breaks as BreaksInNeeds}
-use Rattle.xc_today.specs.Today.{IsBuiltToday}
+use Rattle.xc_today.specs.Today.{IsSupported}
 
 -- the text has tokens, these are a program with this tree, and no rule on tokens is broken
 pub record IsTree (text : List ℕ) (items : List Item) : Type 0 where
@@ -87,7 +87,7 @@ IsEarlier a b = rank a < rank b
 -- Rule 299 is the first phase, and needs a tree, so no text breaks it beside a rule on tokens or grammar. A text's kernel is the one
 -- copy of its program, so rules on size, branches and needs are told by the text alone.
 pub data Breaks (text : List ℕ) : Phase → Broken → Type 0 where
-  of_form : (items : List Item) (tree : IsTree text items) → (IsBuiltToday tree.toks items → ⊥) → Breaks text Form not_built
+  of_form : (items : List Item) (tree : IsTree text items) → (IsSupported tree.toks items → ⊥) → Breaks text Form not_built
   of_bytes : (b : Broken) → BreaksInBytes text b → Breaks text Bytes b
   of_tokens : (toks : List Tok) (rule i : ℕ) → Lexes text toks → BreaksRule toks rule i → Breaks text Tokens (record { rule = rule; pos = place_at toks (end_of text) i })
   of_names : (items : List Item) (b : Broken) → IsTree text items → BreaksInNames items b → Breaks text Names b

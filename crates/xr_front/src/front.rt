@@ -22,7 +22,7 @@ use xc_kernel::Kernel;
 use xc_lexer::lex;
 use xc_names::resolve;
 use xc_parser::{end_pos, parse};
-use xc_today::is_built_today;
+use xc_today::is_supported;
 use xc_tree::{Refusal, Tree, Typed};
 use xc_types::check;
 use xw_words::{Broken, Pos};
@@ -42,7 +42,7 @@ pub fn read_text(alloc: Global, text: &[u8]) -> Result<Checked, Refusal>
 {
     let toks = lex(alloc, text)?;
     let tree = parse(alloc, &toks, end_pos(text))?;
-    if !is_built_today(toks.as_slice(), &tree) {
+    if !is_supported(toks.as_slice(), &tree) {
         drop(tree);
         return Err(Refusal::Broken(NOT_BUILT));
     }

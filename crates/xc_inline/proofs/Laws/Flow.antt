@@ -7,7 +7,7 @@ use Rattle.xc_kernel.specs.Scopes.{Scope}
 use Rattle.xc_kernel.specs.Copy.{Copy, one_statement, joined, with_code, with_variable, with_block, code_of}
 use Rattle.xc_kernel.specs.Context.{Context, block_at}
 use Rattle.xc_kernel.specs.Calls.{as_block}
-use Rattle.xc_kernel.specs.Flow.{if_copy, loop_at, turn}
+use Rattle.xc_kernel.specs.Flow.{if_copy, loop_at, iteration}
 
 -- a copy as a block
 pub block_made : (c : Context) {own path : Path} {copy : Copy} {code : List kernel.Statement} {block : kernel.Statement} {taken added whole : Copy} → code ≡ copy.code → taken ≡ with_code copy [] → path ≡ own → block ≡ block_at c path code → added ≡ with_code taken (taken.code ++ block ∷ []) → whole ≡ with_block added own → whole ≡ as_block c own copy
@@ -25,7 +25,7 @@ pub loop_made : (c : Context) {path own : Path} {test : kernel.Expression} {next
     left ≡ with_code next [] → right ≡ with_code body [] → both ≡ joined left right →
     loop ≡ kernel.loop test (kernel.statements inside) (kernel.statements followed) → whole ≡ block_at c path (loop ∷ []) →
     added ≡ with_code both (both.code ++ whole ∷ []) → inner ≡ with_block added own → outer ≡ with_block inner path →
-    outer ≡ loop_at c path test (turn c path body.code last) (code_of next) (joined next body)
+    outer ≡ loop_at c path test (iteration c path body.code last) (code_of next) (joined next body)
 loop_made c {path} {own} {test} {next} body {followed} {inside} {last} f i o l r b loop w a inner outer =
     let both = b ∙ λ j. joined (l j) (r j) in
     let block = w ∙ λ j. block_at c path ((loop ∙ λ k. kernel.loop test (kernel.statements ((i ∙ λ m. block_at c (o m) body.code ∷ last) k)) (kernel.statements (f k))) j ∷ []) in

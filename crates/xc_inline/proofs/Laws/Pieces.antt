@@ -11,7 +11,7 @@ use Rattle.xc_kernel.specs.Copy.{Copy, no_copy, one_statement, joined, followed_
 use Rattle.xc_kernel.specs.Context.{Context, in_function, expression, place, set_word, leave}
 use Rattle.xc_kernel.specs.Parameters.{all_passed}
 use Rattle.xc_kernel.specs.Calls.{CopiesCall, CopiesStatement, instance_of, result_copy, as_block, naming_none, function_copy, right_copy, value_of}
-use Rattle.xc_kernel.specs.Flow.{if_copy, if_parts, loop_at, turn, while_copy, do_while_copy, leave_unless, first_of, transaction_copy}
+use Rattle.xc_kernel.specs.Flow.{if_copy, if_parts, loop_at, iteration, while_copy, do_while_copy, leave_unless, first_of, transaction_copy}
 use Rattle.xc_kernel.specs.Statements.{set_copy, return_copy}
 
 -- an `if`
@@ -19,12 +19,12 @@ pub if_done : {test e : kernel.Expression} {first a b r : Copy} (second : Scope 
 if_done second e a b r = r ∙ λ i. if_copy (e i) (a i) ((b ∙ λ j. second (a j).scope) i)
 
 -- loops, with their word at a place
-pub while_done : (c : Context) (pos : Pos) {test e : kernel.Expression} {path : Path} {n r : Copy} (scope : Scope) (body : Copy) → e ≡ test → path ≡ path_at c.path pos → n ≡ no_copy scope → r ≡ loop_at c path e (turn c path body.code []) (code_of n) (joined n body) → r ≡ while_copy c pos test body
-while_done c pos scope body e path n r = r ∙ λ i. loop_at c (path i) (e i) (turn c (path i) body.code []) (code_of (n i)) (joined (n i) body)
+pub while_done : (c : Context) (pos : Pos) {test e : kernel.Expression} {path : Path} {n r : Copy} (scope : Scope) (body : Copy) → e ≡ test → path ≡ path_at c.path pos → n ≡ no_copy scope → r ≡ loop_at c path e (iteration c path body.code []) (code_of n) (joined n body) → r ≡ while_copy c pos test body
+while_done c pos scope body e path n r = r ∙ λ i. loop_at c (path i) (e i) (iteration c (path i) body.code []) (code_of (n i)) (joined (n i) body)
 
-pub do_done : (c : Context) (pos : Pos) (test : tree.Expression) {e : kernel.Expression} {last : kernel.Statement} {path : Path} {body b r : Copy} (scope : Scope) → e ≡ expression c b.scope test → path ≡ path_at c.path pos → b ≡ body → last ≡ leave_unless c path e → r ≡ loop_at c path (kernel.number 1) (turn c path b.code (last ∷ [])) (code_of (no_copy scope)) (joined (no_copy scope) b) → r ≡ do_while_copy c pos test body
+pub do_done : (c : Context) (pos : Pos) (test : tree.Expression) {e : kernel.Expression} {last : kernel.Statement} {path : Path} {body b r : Copy} (scope : Scope) → e ≡ expression c b.scope test → path ≡ path_at c.path pos → b ≡ body → last ≡ leave_unless c path e → r ≡ loop_at c path (kernel.number 1) (iteration c path b.code (last ∷ [])) (code_of (no_copy scope)) (joined (no_copy scope) b) → r ≡ do_while_copy c pos test body
 do_done c pos test scope e path b last r =
-    r ∙ λ i. loop_at c (path i) (kernel.number 1) (turn c (path i) (b i).code ((last ∙ λ j. leave_unless c (path j) ((e ∙ λ k. expression c (b k).scope test) j)) i ∷ [])) (code_of (no_copy scope)) (joined (no_copy scope) (b i))
+    r ∙ λ i. loop_at c (path i) (kernel.number 1) (iteration c (path i) (b i).code ((last ∙ λ j. leave_unless c (path j) ((e ∙ λ k. expression c (b k).scope test) j)) i ∷ [])) (code_of (no_copy scope)) (joined (no_copy scope) (b i))
 
 -- a `for`, which is a scope
 -- an assignment by `=`

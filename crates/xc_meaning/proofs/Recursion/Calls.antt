@@ -15,7 +15,7 @@ use Rattle.xc_tree.specs.Types.Named.{NamedProgram, name_at, function_of, past}
 use Rattle.xc_tree.specs.Types.Calls.{Argument}
 use Rattle.xc_tree.specs.Types.Sites as sites
 use Rattle.xc_tree.specs.Types.Rules.{rule_404, broken_unless}
-use Rattle.xc_tree.specs.Shapes.Around.{Around, in_block_of}
+use Rattle.xc_tree.specs.Shapes.Enclosing.{Enclosing, in_block_of}
 use Rattle.xc_tree.specs.Checks as checks
 use Rattle.xc_meaning.specs.Texts.Called.{EachCall}
 use Rattle.xc_meaning.proofs.Recursion.Items.{item_stands, item_next}
@@ -63,7 +63,7 @@ pub record IsCall (n : NamedProgram) (f : ℕ) (c : plain.Call) : Type 0 where
   pub place : ℕ
   pub inside : IsInItem n.program place f
   pub there : slice_get (marks.of_items 0 n.program) place ≡ Some (Calls c.called)
-  pub around : Around
+  pub around : Enclosing
   pub given : List Argument
   pub is_right_side : Bool
   pub site : Contains (sites.sites n) (sites.call around (name_at n (past 0 (take place (marks.of_items 0 n.program))) c.called) (function_of n (name_at n (past 0 (take place (marks.of_items 0 n.program))) c.called).what) given is_right_side)
@@ -105,7 +105,7 @@ module _ (n : NamedProgram) (f : ℕ) (h : plain.Head) (b : plain.Statement) (at
       one_more : (j : ℕ) → j + 1 ≡ suc j
       one_more j = omega arith
 
-  a_call : (k : ℕ) (c : plain.Call) (ms : List Mark) (around : Around) (given : List Argument) (r : Bool) (ss : List sites.Site) → In k (Calls c.called ∷ ms) → Among n (sites.call around (name_at n k c.called) (function_of n (name_at n k c.called).what) given r ∷ ss) → IsCall n f c
+  a_call : (k : ℕ) (c : plain.Call) (ms : List Mark) (around : Enclosing) (given : List Argument) (r : Bool) (ss : List sites.Site) → In k (Calls c.called ∷ ms) → Among n (sites.call around (name_at n k c.called) (function_of n (name_at n k c.called).what) given r ∷ ss) → IsCall n f c
   unfolding In
   a_call k c ms around given r ss m a =
       let before_is : past 0 (take (length m.before) (marks.of_items 0 n.program)) ≡ k = ap (λ (xs : List Mark). past 0 (take (length m.before) xs)) m.whole ∙ ap (past 0) (take_front m.before _) ∙ m.names in

@@ -8,7 +8,7 @@ use Rattle.xc_tree.specs.Names.Marks as marks
 use Rattle.xc_tree.specs.Types.Named.{NamedProgram, name_at, function_of, past}
 use Rattle.xc_tree.specs.Types.Calls.{Argument}
 use Rattle.xc_tree.specs.Types.Sites as sites
-use Rattle.xc_tree.specs.Shapes.Around.{Around, inside, a_block, an_if, a_loop, a_case, a_branch, a_transaction}
+use Rattle.xc_tree.specs.Shapes.Enclosing.{Enclosing, inside, a_block, an_if, a_loop, a_case, a_branch, a_transaction}
 use Rattle.xc_meaning.specs.Texts.Called.{EachRight, EachMaybeRight, EachKind, EachName, EachCall, EachIn, EachMaybe, EachOf, EachOne, EachBranch, EachCase, EachOneCase}
 
 -- How a part of a text stands in the whole of it, by its marks, before which there are k names, and by its sites. A call at the
@@ -18,7 +18,7 @@ pub record Walk (n : NamedProgram) (Marked : ℕ → List Mark → Type 0) (Amon
   pub second : (k : ℕ) (ms ns : List Mark) → Marked k (ms ++ ns) → Marked (past k ms) ns
   pub left : (ss ts : List sites.Site) → Among (ss ++ ts) → Among ss
   pub right : (ss ts : List sites.Site) → Among (ss ++ ts) → Among ts
-  pub call : (k : ℕ) (c : plain.Call) (ms : List Mark) (around : Around) (given : List Argument) (r : _) (ss : List sites.Site) → Marked k (Calls c.called ∷ ms) → Among (sites.call around (name_at n k c.called) (function_of n (name_at n k c.called).what) given r ∷ ss) → Holds c
+  pub call : (k : ℕ) (c : plain.Call) (ms : List Mark) (around : Enclosing) (given : List Argument) (r : _) (ss : List sites.Site) → Marked k (Calls c.called ∷ ms) → Among (sites.call around (name_at n k c.called) (function_of n (name_at n k c.called).what) given r ∷ ss) → Holds c
 
 module _ (n : NamedProgram) (Marked : ℕ → List Mark → Type 0) (Among : List sites.Site → Type 0) (Holds : plain.Call → Type 0) (w : Walk n Marked Among Holds) where
   tail : (s : sites.Site) (ss : List sites.Site) → Among (s ∷ ss) → Among ss
@@ -30,21 +30,21 @@ module _ (n : NamedProgram) (Marked : ℕ → List Mark → Type 0) (Among : Lis
   scope : (k : ℕ) (ms : List Mark) → Marked k (marks.in_scope ms) → Marked k ms
   scope k ms a = w.first k ms (Closes ∷ []) (next k Opens (ms ++ Closes ∷ []) a)
 
-  of_right : (around : Around) (k : ℕ) (r : _) (x : plain.RightSide) → Marked k (marks.of_right x) → Among (sites.of_right n around k r x) → EachRight Holds x
+  of_right : (around : Enclosing) (k : ℕ) (r : _) (x : plain.RightSide) → Marked k (marks.of_right x) → Among (sites.of_right n around k r x) → EachRight Holds x
   of_right around k r (plain.value e) m a = tt
   of_right around k r (plain.result c) m a = w.call k c _ around _ r _ m a
 
-  of_maybe_right : (around : Around) (k : ℕ) (r : _) (x : Option plain.RightSide) → Marked k (marks.optional marks.of_right x) → Among (sites.optional (sites.of_right n around k r) x) → EachMaybeRight Holds x
+  of_maybe_right : (around : Enclosing) (k : ℕ) (r : _) (x : Option plain.RightSide) → Marked k (marks.optional marks.of_right x) → Among (sites.optional (sites.of_right n around k r) x) → EachMaybeRight Holds x
   of_maybe_right around k r None m a = tt
   of_maybe_right around k r (Some x) m a = of_right around k r x m a
 
-  of_kind : (around : Around) (k : ℕ) (x : plain.Kind) → Marked k (marks.of_initial x) → Among (sites.of_kind n around k x) → EachKind Holds x
+  of_kind : (around : Enclosing) (k : ℕ) (x : plain.Kind) → Marked k (marks.of_initial x) → Among (sites.of_kind n around k x) → EachKind Holds x
   of_kind around k (plain.word u r) m a = of_maybe_right around k _ r m a
   of_kind around k (plain.array u l p) m a = tt
   of_kind around k (plain.channel s) m a = tt
   of_kind around k plain.timer m a = tt
 
-  of_declarations : (around : Around) (k : ℕ) (ds : List plain.Declaration) → Marked k (marks.each marks.of_declaration ds) → Among (sites.of_declarations n around k ds) → EachName Holds ds
+  of_declarations : (around : Enclosing) (k : ℕ) (ds : List plain.Declaration) → Marked k (marks.each marks.of_declaration ds) → Among (sites.of_declarations n around k ds) → EachName Holds ds
   of_declarations around k [] m a = tt
   of_declarations around k (d ∷ ds) m a = (
     of_kind around (k + 1) d.kind (next k _ (marks.of_initial d.kind) (w.first k (marks.of_declaration d) (marks.each marks.of_declaration ds) m)) (w.left _ _ a),
@@ -55,10 +55,10 @@ module _ (n : NamedProgram) (Marked : ℕ → List Mark → Type 0) (Among : Lis
   three k = omega arith
 
   mutual
-    pub of_statement : (around : Around) (k : ℕ) (s : plain.Statement) → Marked k (marks.of_statement s) → Among (sites.of_statement n around k s) → EachCall Holds s
+    pub of_statement : (around : Enclosing) (k : ℕ) (s : plain.Statement) → Marked k (marks.of_statement s) → Among (sites.of_statement n around k s) → EachCall Holds s
     of_statement around k (plain.statement x p c own) m a = of_action around k p x m a
 
-    of_action : (around : Around) (k : ℕ) (p : Pos) (x : plain.Action) → Marked k (marks.of_action x) → Among (sites.of_action n around k p x) → EachIn Holds x
+    of_action : (around : Enclosing) (k : ℕ) (p : Pos) (x : plain.Action) → Marked k (marks.of_action x) → Among (sites.of_action n around k p x) → EachIn Holds x
     of_action around k p plain.empty m a = tt
     of_action around k p (plain.block ss) m a = of_statements (inside a_block around) k ss (scope k (marks.of_statements ss) m) a
     of_action around k p (plain.declare ds) m a = of_declarations around k ds m a
@@ -95,36 +95,36 @@ module _ (n : NamedProgram) (Marked : ℕ → List Mark → Type 0) (Among : Lis
     of_action around k p (plain.select cs) m a = of_cases around k cs m (tail _ _ a)
     of_action around k p (plain.transaction x ss) m a = of_statements (inside a_transaction around) k ss (scope k (marks.of_statements ss) m) (tail _ _ a)
 
-    of_maybe : (around : Around) (k : ℕ) (x : plain.Maybe) → Marked k (marks.of_maybe x) → Among (sites.of_maybe n around k x) → EachMaybe Holds x
+    of_maybe : (around : Enclosing) (k : ℕ) (x : plain.Maybe) → Marked k (marks.of_maybe x) → Among (sites.of_maybe n around k x) → EachMaybe Holds x
     of_maybe around k plain.absent m a = tt
     of_maybe around k (plain.present s) m a = of_statement around k s m a
 
-    pub of_statements : (around : Around) (k : ℕ) (ss : plain.Statements) → Marked k (marks.of_statements ss) → Among (sites.of_statements n around k ss) → EachOf Holds ss
+    pub of_statements : (around : Enclosing) (k : ℕ) (ss : plain.Statements) → Marked k (marks.of_statements ss) → Among (sites.of_statements n around k ss) → EachOf Holds ss
     of_statements around k plain.no_more m a = tt
     of_statements around k (plain.more s ss) m a = (
       of_statement around k s (w.first k (marks.of_statement s) (marks.of_statements ss) m) (w.left _ _ a),
       of_statements around (past k (marks.of_statement s)) ss (w.second k (marks.of_statement s) (marks.of_statements ss) m) (w.right (sites.of_statement n around k s) _ a),
     )
 
-    of_branch : (around : Around) (k : ℕ) (x : plain.Branch) → Marked k (marks.of_branch x) → Among (sites.of_branch n around k x) → EachOne Holds x
+    of_branch : (around : Enclosing) (k : ℕ) (x : plain.Branch) → Marked k (marks.of_branch x) → Among (sites.of_branch n around k x) → EachOne Holds x
     of_branch around k (plain.branch p s) m a =
         of_statement (inside a_branch around) (past k (marks.optional marks.of_place p)) s (w.second k (marks.optional marks.of_place p) (marks.of_statement s) m) (w.right (sites.optional (sites.of_branch_place n around k) p) _ a)
 
-    of_branches : (around : Around) (k : ℕ) (bs : plain.Branches) → Marked k (marks.of_branches bs) → Among (sites.of_branches n around k bs) → EachBranch Holds bs
+    of_branches : (around : Enclosing) (k : ℕ) (bs : plain.Branches) → Marked k (marks.of_branches bs) → Among (sites.of_branches n around k bs) → EachBranch Holds bs
     of_branches around k plain.no_branch m a = tt
     of_branches around k (plain.more_branches b bs) m a = (
       of_branch around k b (w.first k (marks.of_branch b) (marks.of_branches bs) m) (w.left _ _ a),
       of_branches around (past k (marks.of_branch b)) bs (w.second k (marks.of_branch b) (marks.of_branches bs) m) (w.right (sites.of_branch n around k b) _ a),
     )
 
-    of_case : (around : Around) (k : ℕ) (x : plain.Case) → Marked k (marks.of_case x) → Among (sites.of_case n around k x) → EachOneCase Holds x
+    of_case : (around : Enclosing) (k : ℕ) (x : plain.Case) → Marked k (marks.of_case x) → Among (sites.of_case n around k x) → EachOneCase Holds x
     of_case around k (plain.case p g i ss) m a =
         let m0 = scope k (marks.optional marks.of_expression g ++ (marks.optional marks.of_input i ++ marks.of_statements ss)) m in
         let m1 = w.second k (marks.optional marks.of_expression g) (marks.optional marks.of_input i ++ marks.of_statements ss) m0 in
         let a1 = w.right (sites.optional (sites.of_expression n k) g) _ a in
         of_statements (inside a_case around) (past (past k (marks.optional marks.of_expression g)) (marks.optional marks.of_input i)) ss (w.second _ (marks.optional marks.of_input i) (marks.of_statements ss) m1) (w.right (sites.optional (sites.of_input n (past k (marks.optional marks.of_expression g))) i) _ a1)
 
-    of_cases : (around : Around) (k : ℕ) (cs : plain.Cases) → Marked k (marks.of_cases cs) → Among (sites.of_cases n around k cs) → EachCase Holds cs
+    of_cases : (around : Enclosing) (k : ℕ) (cs : plain.Cases) → Marked k (marks.of_cases cs) → Among (sites.of_cases n around k cs) → EachCase Holds cs
     of_cases around k plain.no_case m a = tt
     of_cases around k (plain.more_cases c cs) m a = (
       of_case around k c (w.first k (marks.of_case c) (marks.of_cases cs) m) (w.left _ _ a),
@@ -132,7 +132,7 @@ module _ (n : NamedProgram) (Marked : ℕ → List Mark → Type 0) (Among : Lis
     )
 
   -- what stands directly in a function's block
-  pub of_body : (around : Around) (k : ℕ) (s : plain.Statement) → Marked k (marks.of_body s) → Among (sites.of_body n around k s) → EachCall Holds s
+  pub of_body : (around : Enclosing) (k : ℕ) (s : plain.Statement) → Marked k (marks.of_body s) → Among (sites.of_body n around k s) → EachCall Holds s
   of_body around k (plain.statement (plain.block ss) p c own) m a = of_statements around k ss m a
   of_body around k (plain.statement plain.empty p c own) m a = tt
   of_body around k (plain.statement (plain.declare ds) p c own) m a = of_action around k p (plain.declare ds) m a

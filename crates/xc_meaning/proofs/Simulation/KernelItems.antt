@@ -12,7 +12,7 @@ use Rattle.xc_kernel.specs.Context.{Context, in_function, maybe_expression, set_
 use Rattle.xc_kernel.specs.Parameters.{passed, all_passed}
 use Rattle.xc_kernel.specs.Calls.{body_copy}
 use Rattle.xc_kernel.specs.Declarations.{declaration_copy, declarations_copy}
-use Rattle.xc_kernel.specs.Flow.{turn, leave_unless, test_or_true}
+use Rattle.xc_kernel.specs.Flow.{iteration, leave_unless, test_or_true}
 use Rattle.xc_kernel.specs.Statements.{statement_copy, maybe_copy, statements_copy}
 use Rattle.xc_meaning.specs.States.Items.{Loop, TextItem, statement, name, bound, body, first_test, again, again_do, returned, Body, of_kernel, of_text, Choice, Item, does, says, stores, stamps, mark, awaits, transaction_end, chooses, fixed, ends, todo, body_items}
 use Rattle.xc_meaning.specs.Settings.Flow.{from_mark_by, items_from_mark}
@@ -35,14 +35,14 @@ loop_body l = statement_copy (calls_in l.context) l.body (turn_context l) l.scop
 -- the kernel's loop of a `while` or `for`, and that of a `do` with the test that ends each turn
 abbrev pub loop_of : Loop → kernel.Statement
 loop_of l =
-    kernel.loop (test_in l.context l.scope l.test) (turn l.context (loop_path l) (loop_body l).code [])
+    kernel.loop (test_in l.context l.scope l.test) (iteration l.context (loop_path l) (loop_body l).code [])
     (code_of (maybe_copy (calls_in l.context) l.next l.context l.scope))
 
 abbrev pub do_test : Loop → kernel.Statement
 do_test l = leave_unless l.context (loop_path l) (test_in l.context (loop_body l).scope l.test)
 
 abbrev pub do_loop_of : Loop → kernel.Statement
-do_loop_of l = kernel.loop (kernel.number 1) (turn l.context (loop_path l) (loop_body l).code (do_test l ∷ [])) kernel.no_more
+do_loop_of l = kernel.loop (kernel.number 1) (iteration l.context (loop_path l) (loop_body l).code (do_test l ∷ [])) kernel.no_more
 
 -- the code that an item of a text stands for
 abbrev pub code_of_item : TextItem → kernel.Statements

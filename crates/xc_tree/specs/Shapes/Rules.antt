@@ -8,7 +8,7 @@ use Rattle.xc_tree.specs.Types.Calls.{Argument, is_channel_given}
 use Rattle.xc_tree.specs.Types.Sites.{Site}
 use Rattle.xc_tree.specs.Types.Sites as site
 use Rattle.xc_tree.specs.Types.Rules.{broken_where, broken_unless}
-use Rattle.xc_tree.specs.Shapes.Around.{has_way_out, has_next_turn, in_transaction, in_par_or_transaction, is_main, directly_in_main}
+use Rattle.xc_tree.specs.Shapes.Enclosing.{has_way_out, has_next_turn, in_transaction, in_par_or_transaction, is_main, directly_in_main}
 use Rattle.xc_tree.specs.Shapes.Places.{has_form_of_place}
 use Rattle.xc_tree.specs.Shapes.Main.{place_branches, is_channels_par_return, statements_in}
 

@@ -10,7 +10,7 @@ use Rattle.xc_tree.specs.Names.Marks as marks
 use Rattle.xc_tree.specs.Types.Named.{NamedProgram, Name, name_at, names_used, past, function_of}
 use Rattle.xc_tree.specs.Types.Words.{is_unsigned}
 use Rattle.xc_tree.specs.Types.Calls.{Argument, arguments, first_of, rest_of}
-use Rattle.xc_tree.specs.Shapes.Around.{Around, inside, in_block_of, a_block, an_if, a_loop, a_case, a_branch, a_transaction}
+use Rattle.xc_tree.specs.Shapes.Enclosing.{Enclosing, inside, in_block_of, a_block, an_if, a_loop, a_case, a_branch, a_transaction}
 
 pub data Site : Type 0 where
   -- a node of an expression: whether it is a word that is `unsigned`
@@ -22,7 +22,7 @@ pub data Site : Type 0 where
   -- a name alone where an `lval` is needed
   lval : Name → Site
   -- a call: the name that is called, the function that it means, the arguments, and whether the call is an `rhs`
-  call : Around → Name → Option plain.Head → List Argument → (is_right_side : Bool) → Site
+  call : Enclosing → Name → Option plain.Head → List Argument → (is_right_side : Bool) → Site
   -- the name before a `<:`, and that before a `:>`
   output : Name → Site
   input : Name → Site
@@ -35,15 +35,15 @@ pub data Site : Type 0 where
   -- the names of a replicated `par`
   replicator : (first second third : Id) → Site
   -- these with their first word; a `return` also with whether it has a value
-  return : Around → (has_value : Bool) → Pos → Site
-  break : Around → Pos → Site
-  continue : Around → Pos → Site
-  par : Around → Pos → Site
-  select : Around → plain.Cases → Pos → Site
+  return : Enclosing → (has_value : Bool) → Pos → Site
+  break : Enclosing → Pos → Site
+  continue : Enclosing → Pos → Site
+  par : Enclosing → Pos → Site
+  select : Enclosing → plain.Cases → Pos → Site
   -- also with the names of the communications inside
-  transaction : Around → List Name → Pos → Site
+  transaction : Enclosing → List Name → Pos → Site
   -- the place of a branch, and what is around its `par`
-  placed : Around → plain.Place → Site
+  placed : Enclosing → plain.Place → Site
   -- any place, with the names in it
   place : plain.Place → List Name → Site
   function : plain.Head → plain.Statement → Site
@@ -128,15 +128,15 @@ params_of None = []
 params_of (Some h) = h.params
 
 -- a call of what `called` means, which is `meant` where that is a function
-abbrev pub of_called : NamedProgram → Around → ℕ → Name → Option plain.Head → List plain.Argument → (is_right_side : Bool) → List Site
+abbrev pub of_called : NamedProgram → Enclosing → ℕ → Name → Option plain.Head → List plain.Argument → (is_right_side : Bool) → List Site
 of_called n around k called meant given r =
     call around called meant (arguments n k (params_of meant) given) r ∷ of_arguments n k (params_of meant) given
 
-abbrev pub of_call : NamedProgram → Around → ℕ → (is_right_side : Bool) → plain.Call → List Site
+abbrev pub of_call : NamedProgram → Enclosing → ℕ → (is_right_side : Bool) → plain.Call → List Site
 of_call n around k r c =
     of_called n around (k + 1) (name_at n k c.called) (function_of n (name_at n k c.called).what) c.arguments r
 
-abbrev pub of_right : NamedProgram → Around → ℕ → (is_right_side : Bool) → plain.RightSide → List Site
+abbrev pub of_right : NamedProgram → Enclosing → ℕ → (is_right_side : Bool) → plain.RightSide → List Site
 of_right n around k r (plain.value e) = of_expression n k e
 of_right n around k r (plain.result c) = of_call n around k r c
 
@@ -185,13 +185,13 @@ of_input n k i =
     ++ of_target_and_stamp n (past_condition (past_time (k + 1) i.time) i.condition) (name_at n k i.name) i))
 
 -- what the kind of a declared name has, behind that name
-abbrev pub of_kind : NamedProgram → Around → ℕ → plain.Kind → List Site
+abbrev pub of_kind : NamedProgram → Enclosing → ℕ → plain.Kind → List Site
 of_kind n around k (plain.word u r) = optional (of_right n around k true) r
 of_kind n around k (plain.array u l p) = array_length l p ∷ []
 of_kind n around k (plain.channel s) = []
 of_kind n around k plain.timer = []
 
-abbrev pub of_declarations : NamedProgram → Around → ℕ → List plain.Declaration → List Site
+abbrev pub of_declarations : NamedProgram → Enclosing → ℕ → List plain.Declaration → List Site
 of_declarations n around k [] = []
 of_declarations n around k (d ∷ ds) =
     of_kind n around (k + 1) d.kind ++ of_declarations n around (past k (marks.of_declaration d)) ds
@@ -200,15 +200,15 @@ abbrev pub of_place : NamedProgram → ℕ → plain.Place → List Site
 of_place n k p = place p (names_used n k (marks.of_expression p.value)) ∷ of_expression n k p.value
 
 -- the place of a branch, and what is around its `par`
-abbrev pub of_branch_place : NamedProgram → Around → ℕ → plain.Place → List Site
+abbrev pub of_branch_place : NamedProgram → Enclosing → ℕ → plain.Place → List Site
 of_branch_place n around k p = placed around p ∷ of_place n k p
 
 abbrev mutual
   -- what a statement has, with what is around it; the text has k names before it
-  pub of_statement : NamedProgram → Around → ℕ → plain.Statement → List Site
+  pub of_statement : NamedProgram → Enclosing → ℕ → plain.Statement → List Site
   of_statement n around k (plain.statement a p c own) = of_action n around k p a
 
-  pub of_action : NamedProgram → Around → ℕ → Pos → plain.Action → List Site
+  pub of_action : NamedProgram → Enclosing → ℕ → Pos → plain.Action → List Site
   of_action n around k p plain.empty = []
   of_action n around k p (plain.block ss) = of_statements n (inside a_block around) k ss
   of_action n around k p (plain.declare ds) = of_declarations n around k ds
@@ -241,32 +241,32 @@ abbrev mutual
       transaction around (communications (of_statements n (inside a_transaction around) k ss)) p
       ∷ of_statements n (inside a_transaction around) k ss
 
-  pub of_maybe : NamedProgram → Around → ℕ → plain.Maybe → List Site
+  pub of_maybe : NamedProgram → Enclosing → ℕ → plain.Maybe → List Site
   of_maybe n around k plain.absent = []
   of_maybe n around k (plain.present s) = of_statement n around k s
 
-  pub of_statements : NamedProgram → Around → ℕ → plain.Statements → List Site
+  pub of_statements : NamedProgram → Enclosing → ℕ → plain.Statements → List Site
   of_statements n around k plain.no_more = []
   of_statements n around k (plain.more s ss) =
       of_statement n around k s ++ of_statements n around (past k (marks.of_statement s)) ss
 
-  pub of_branch : NamedProgram → Around → ℕ → plain.Branch → List Site
+  pub of_branch : NamedProgram → Enclosing → ℕ → plain.Branch → List Site
   of_branch n around k (plain.branch p s) =
       optional (of_branch_place n around k) p
       ++ of_statement n (inside a_branch around) (past k (marks.optional marks.of_place p)) s
 
-  pub of_branches : NamedProgram → Around → ℕ → plain.Branches → List Site
+  pub of_branches : NamedProgram → Enclosing → ℕ → plain.Branches → List Site
   of_branches n around k plain.no_branch = []
   of_branches n around k (plain.more_branches b bs) =
       of_branch n around k b ++ of_branches n around (past k (marks.of_branch b)) bs
 
-  pub of_case : NamedProgram → Around → ℕ → plain.Case → List Site
+  pub of_case : NamedProgram → Enclosing → ℕ → plain.Case → List Site
   of_case n around k (plain.case p g i ss) =
       optional (of_expression n k) g
       ++ (optional (of_input n (past k (marks.optional marks.of_expression g))) i
       ++ of_statements n (inside a_case around) (past (past k (marks.optional marks.of_expression g)) (marks.optional marks.of_input i)) ss)
 
-  pub of_cases : NamedProgram → Around → ℕ → plain.Cases → List Site
+  pub of_cases : NamedProgram → Enclosing → ℕ → plain.Cases → List Site
   of_cases n around k plain.no_case = []
   of_cases n around k (plain.more_cases c cs) =
       of_case n around k c ++ of_cases n around (past k (marks.of_case c)) cs
@@ -280,7 +280,7 @@ abbrev pub of_parameter : Param → List Site
 of_parameter p = of_parameter_kind p.kind
 
 -- what stands directly in a function's block
-abbrev pub of_body : NamedProgram → Around → ℕ → plain.Statement → List Site
+abbrev pub of_body : NamedProgram → Enclosing → ℕ → plain.Statement → List Site
 of_body n around k (plain.statement (plain.block ss) p c own) = of_statements n around k ss
 of_body n around k s = of_statement n around k s
 

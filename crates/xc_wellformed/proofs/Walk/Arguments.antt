@@ -21,7 +21,7 @@ use Rattle.xc_tree.specs.Types.Rules.{has_number, gives_word}
 use Rattle.xc_tree.specs.Words.{timerafter_word}
 use Rattle.xc_tree.specs.Types.Sites.{Site}
 use Rattle.xc_tree.specs.Types.Sites as site
-use Rattle.xc_tree.specs.Shapes.Around.{Around, a_block, an_if, a_loop, a_case, a_branch, a_transaction, Holder, inside, in_block_of, has_way_out, has_next_turn, in_transaction, in_par_or_transaction, is_main}
+use Rattle.xc_tree.specs.Shapes.Enclosing.{Enclosing, a_block, an_if, a_loop, a_case, a_branch, a_transaction, Holder, inside, in_block_of, has_way_out, has_next_turn, in_transaction, in_par_or_transaction, is_main}
 use Rattle.xc_tree.specs.Shapes.Rules.{channels, are_one}
 use Rattle.xc_kernel.specs.declared.kernel.Var.{Var}
 use Rattle.xc_kernel.specs.declared.kernel.Chan.{Chan}
@@ -41,8 +41,8 @@ use Rattle.xc_kernel.specs.Calls.{CopiesCall}
 use Rattle.xc_kernel.specs.Transfers.{output_of, input_of}
 use Rattle.xc_tree.specs.Shapes.Main.{is_channels_par_return, place_branches, statements_in}
 pub use Rattle.xc_meaning.proofs.Counting.GreatestCount.{AllIn, both}
-use Rattle.xc_wellformed.specs.Stacks.{declared_at, Frame, Stack, decl_by, found, with_decl, after, IsFresh, Resolves}
-use Rattle.xc_wellformed.specs.Standing.{InstanceOf, IsInstance, IsTold, HasVariable, HasChannel, HasTimer, head_of, Stands, a_variable, whole_array, word_referred, element_referred, array_referred, the_channel, the_end, the_timer, the_port, port_given, the_index, the_function, none_there, Agrees}
+use Rattle.xc_wellformed.specs.Stacks.{declared_at, Frame, Stack, decl_by, found, with_decl, after, IsUndeclared, Resolves}
+use Rattle.xc_wellformed.specs.Denotes.{InstanceOf, IsInstance, IsTold, HasVariable, HasChannel, HasTimer, head_of, Denotes, a_variable, whole_array, word_referred, element_referred, array_referred, the_channel, the_end, the_timer, the_port, port_given, the_index, the_function, none_there, Agrees}
 use Rattle.xc_wellformed.specs.Each.{EachStatement, EachOf}
 use Rattle.xc_wellformed.proofs.Shaped.{WaitsRight, ShapedArguments}
 use Rattle.xc_wellformed.proofs.Stacks.{quiet_split, quiet_argument}
@@ -79,7 +79,7 @@ module _ (n : NamedProgram) (fs : List Function) (ps : List PortUse) (num : Numb
   Known st scope = Agrees n fs ps num (H here) (J here) st scope
 
   abbrev pub Standing : List ℕ → Option What → Entity → Type 0
-  Standing t w e = Stands n fs ps num (H here) (J here) t w e
+  Standing t w e = Denotes n fs ps num (H here) (J here) t w e
 
   -- a name at its place in the text
   pub standing : (st : Stack) (scope : Scope) (k : ℕ) (t : List ℕ) → Known st scope → declared_at n (slice_get n.uses k) ≡ found st t → Standing t (what_at n (slice_get n.uses k)) (entity_of scope t)
@@ -185,10 +185,10 @@ module _ (n : NamedProgram) (fs : List Function) (ps : List PortUse) (num : Numb
 
     module _ (leaves : Leaves) (gs : Frame) where
       -- a `return` here would leave the function's body with a value
-      abbrev pub NeedsResult : Around → Type 0
+      abbrev pub NeedsResult : Enclosing → Type 0
       NeedsResult around = (in_par_or_transaction around.holders ≡ false) × (is_some around.function.result ≡ true)
 
-      pub inner_needs : (h : Holder) (around : Around) → NeedsResult (inside h around) → NeedsResult around
+      pub inner_needs : (h : Holder) (around : Enclosing) → NeedsResult (inside h around) → NeedsResult around
       inner_needs a_block around t = t
       inner_needs an_if around t = t
       inner_needs a_loop around t = t
@@ -197,7 +197,7 @@ module _ (n : NamedProgram) (fs : List Function) (ps : List PortUse) (num : Numb
       inner_needs a_transaction around t = absurd (true≢false t.0)
 
       -- where a statement stands
-      pub record Sits (c : Context) (scope : Scope) (st : Stack) (around : Around) : Type 0 where
+      pub record Sits (c : Context) (scope : Scope) (st : Stack) (around : Enclosing) : Type 0 where
         pub numbers : c.numbering ≡ num
         pub core_is : c.core ≡ here
         pub functions_are : c.functions ≡ fs
@@ -205,7 +205,7 @@ module _ (n : NamedProgram) (fs : List Function) (ps : List PortUse) (num : Numb
         pub result_there : NeedsResult around → HasVariable num (H here) c.result false 1
         pub known : Known st scope
 
-      pub sits_in : (c d : Context) (scope other : Scope) (st su : Stack) (around near : Around) → d.numbering ≡ c.numbering → d.functions ≡ c.functions → d.ports ≡ c.ports → d.result ≡ c.result → d.core ≡ c.core → (NeedsResult near → NeedsResult around) → Known su other → Sits c scope st around → Sits d other su near
+      pub sits_in : (c d : Context) (scope other : Scope) (st su : Stack) (around near : Enclosing) → d.numbering ≡ c.numbering → d.functions ≡ c.functions → d.ports ≡ c.ports → d.result ≡ c.result → d.core ≡ c.core → (NeedsResult near → NeedsResult around) → Known su other → Sits c scope st around → Sits d other su near
       sits_in c d scope other st su around near e f g h i q a s = record {
         numbers = e ∙ s.numbers;
         core_is = i ∙ s.core_is;
@@ -216,17 +216,17 @@ module _ (n : NamedProgram) (fs : List Function) (ps : List PortUse) (num : Numb
       }
 
       -- the same place with other names, or inside something
-      pub with_names : (c : Context) (scope other : Scope) (st su : Stack) (around near : Around) → (NeedsResult near → NeedsResult around) → Known su other → Sits c scope st around → Sits c other su near
+      pub with_names : (c : Context) (scope other : Scope) (st su : Stack) (around near : Enclosing) → (NeedsResult near → NeedsResult around) → Known su other → Sits c scope st around → Sits c other su near
       with_names c scope other st su around near q a s = sits_in c c scope other st su around near refl refl refl refl refl q a s
 
       -- expressions and places here
-      pub ex_at : (c : Context) (scope : Scope) (st : Stack) (around : Around) (k : ℕ) (e : tree.Expression) → Sits c scope st around → Resolves n k st (marks.of_expression e) → AllIn IsFine (site.of_expression n k e) → X e → F (expression c scope e)
+      pub ex_at : (c : Context) (scope : Scope) (st : Stack) (around : Enclosing) (k : ℕ) (e : tree.Expression) → Sits c scope st around → Resolves n k st (marks.of_expression e) → AllIn IsFine (site.of_expression n k e) → X e → F (expression c scope e)
       ex_at c scope st around k e s r g x = subst (λ (m : Numbering). F (expression_in m scope e)) (sym s.numbers) (leaves.ex e k st scope s.known r g x)
 
-      pub test_at : (c : Context) (scope : Scope) (st : Stack) (around : Around) (k : ℕ) (e : tree.Expression) → Sits c scope st around → Resolves n k st (marks.of_expression e) → AllIn IsFine (site.of_expression n k e) → X e → E (expression c scope e)
+      pub test_at : (c : Context) (scope : Scope) (st : Stack) (around : Enclosing) (k : ℕ) (e : tree.Expression) → Sits c scope st around → Resolves n k st (marks.of_expression e) → AllIn IsFine (site.of_expression n k e) → X e → E (expression c scope e)
       test_at c scope st around k e s r g x = leaves.weaker _ (ex_at c scope st around k e s r g x)
 
-      pub lval_at : (c : Context) (scope : Scope) (st : Stack) (around : Around) (k : ℕ) (e : tree.Expression) → Sits c scope st around → Resolves n k st (marks.of_expression e) → AllIn IsFine (site.of_lval n k e) → V e → L (place c scope e)
+      pub lval_at : (c : Context) (scope : Scope) (st : Stack) (around : Enclosing) (k : ℕ) (e : tree.Expression) → Sits c scope st around → Resolves n k st (marks.of_expression e) → AllIn IsFine (site.of_lval n k e) → V e → L (place c scope e)
       lval_at c scope st around k e s r g x = subst (λ (m : Numbering). L (kernel_place m scope e)) (sym s.numbers) (leaves.lval e k st scope s.known r g x)
 
       pub word_at_path : (c : Context) → c.numbering ≡ num → (path : Path) → HasVariable num (H here) path false 1 → L (word_of c.numbering path)
@@ -262,7 +262,7 @@ module _ (n : NamedProgram) (fs : List Function) (ps : List PortUse) (num : Numb
       Among x [] = ⊥
       Among x (y ∷ f) = (y ≡ x) ⊎ Among x f
 
-      among_fresh : (f : Frame) (x : Decl) (t : List ℕ) → Among x f → IsFresh t f → bytes_eq x.name.text t ≡ false
+      among_fresh : (f : Frame) (x : Decl) (t : List ℕ) → Among x f → IsUndeclared t f → bytes_eq x.name.text t ≡ false
       among_fresh [] x t a h = absurd a
       among_fresh (y ∷ f) x t (inl e) h = ap (λ (z : Decl). bytes_eq z.name.text t) (sym e) ∙ h.0
       among_fresh (y ∷ f) x t (inr a) h = among_fresh f x t a h.1
@@ -410,7 +410,7 @@ module _ (n : NamedProgram) (fs : List Function) (ps : List PortUse) (num : Numb
       element_given c scope own pos spot u i t _ _ q on f (the_function h) e made = no e
       element_given c scope own pos spot u i t _ _ q on f none_there e made = no e
 
-      module _ (c : Context) (scope : Scope) (st : Stack) (around : Around) (s : Sits c scope st around) where
+      module _ (c : Context) (scope : Scope) (st : Stack) (around : Enclosing) (s : Sits c scope st around) where
         stands_here : (k : ℕ) (t : List ℕ) → declared_at n (slice_get n.uses k) ≡ found st t → Standing t (what_at n (slice_get n.uses k)) (entity_of scope t)
         stands_here k t e = standing st scope k t s.known e
 
@@ -524,7 +524,7 @@ module _ (n : NamedProgram) (fs : List Function) (ps : List PortUse) (num : Numb
         pub result : is_some f.head.result ≡ true → HasVariable num (H here) (path_at own f.head.name.pos) false 1
 
       abbrev pub CallsWell : (tree.Call → Type 0) → CopiesCall → Type 0
-      CallsWell C copies = (call : tree.Call) (f : Function) → function_named fs call.called.text ≡ Some f → C call → (c : Context) (scope : Scope) (st : Stack) (around : Around) (k : ℕ) → Sits c scope st around →
+      CallsWell C copies = (call : tree.Call) (f : Function) → function_named fs call.called.text ≡ Some f → C call → (c : Context) (scope : Scope) (st : Stack) (around : Enclosing) (k : ℕ) → Sits c scope st around →
           Resolves n k st (marks.each marks.of_argument call.arguments) → AllIn IsFine (site.of_arguments n k f.head.params call.arguments) → ShapedArguments X V S C call.arguments → length call.arguments ≡ length f.head.params → AllFit (arguments n k f.head.params call.arguments) →
           Made (copies c scope f call.called.pos call.arguments) → CallWell st (path_at c.path call.called.pos) f (copies c scope f call.called.pos call.arguments)
 
@@ -532,5 +532,5 @@ module _ (n : NamedProgram) (fs : List Function) (ps : List PortUse) (num : Numb
       abbrev pub CallFacts : ℕ → List tree.Argument → Bool → Option tree.Head → Type 0
       CallFacts k args r meant = (has_number meant (arguments n k (site.params_of meant) args) ≡ true) × (AllFit (arguments n k (site.params_of meant) args) × ((r ≡ true → gives_word meant ≡ true) × AllIn IsFine (site.of_arguments n k (site.params_of meant) args)))
 
-      pub nothing_well : (c : Context) (scope : Scope) (st : Stack) (around : Around) → Sits c scope st around → Well st (Rattle.xc_kernel.specs.Copy.no_copy scope)
+      pub nothing_well : (c : Context) (scope : Scope) (st : Stack) (around : Enclosing) → Sits c scope st around → Well st (Rattle.xc_kernel.specs.Copy.no_copy scope)
       nothing_well c scope st around s = record { code = tt; scope = s.known }

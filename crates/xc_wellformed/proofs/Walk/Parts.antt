@@ -11,7 +11,7 @@ use Rattle.xc_tree.specs.Types.Named.{NamedProgram, Name, name_at, past}
 use Rattle.xc_tree.specs.Types.Entities.{is_channel, agree}
 use Rattle.xc_tree.specs.Types.Sites.{Site}
 use Rattle.xc_tree.specs.Types.Sites as site
-use Rattle.xc_tree.specs.Shapes.Around.{Around, is_empty, in_par_or_transaction}
+use Rattle.xc_tree.specs.Shapes.Enclosing.{Enclosing, is_empty, in_par_or_transaction}
 use Rattle.xc_kernel.specs.declared.kernel.PortUse.{PortUse}
 use Rattle.xc_kernel.specs.Plain as kernel
 use Rattle.xc_kernel.specs.Paths.{Path, path_at, path_of_turn}
@@ -27,7 +27,7 @@ use Rattle.xc_kernel.specs.Transfers.{channel_of, time_of, stamp_of, condition_o
 use Rattle.xc_kernel.specs.Flow.{first_of, test_or_true, numbered_copy, replicated}
 use Rattle.xc_kernel.specs.Statements.{pos_of_branch, assign_by, return_copy, branch_copy}
 use Rattle.xc_wellformed.specs.Stacks.{Frame, Stack, with_decl, after, Resolves}
-use Rattle.xc_wellformed.specs.Standing.{HasVariable, HasChannel, head_of, a_variable, whole_array, word_referred, element_referred, array_referred, the_channel, the_end, the_timer, the_port, port_given, the_index, the_function, none_there}
+use Rattle.xc_wellformed.specs.Denotes.{HasVariable, HasChannel, head_of, a_variable, whole_array, word_referred, element_referred, array_referred, the_channel, the_end, the_timer, the_port, port_given, the_index, the_function, none_there}
 use Rattle.xc_wellformed.specs.Each.{EachMaybe, EachPlace, EachCondition, EachOutput, EachInput, EachBranch}
 use Rattle.xc_wellformed.proofs.Shaped.{ShapedArguments, ShapedRight, ShapedMaybeRight, ShapedMaybeExpression, ShapedTime, ShapedStamp, ShapedCondition, ShapedTarget, ShapedOutput, ShapedInput, ShapedKind, ShapedDeclarations, OnlyValue, IsStepAtMost}
 use Rattle.xc_wellformed.proofs.Talks.{talks, talks_both, CallsSilent}
@@ -44,7 +44,7 @@ module _ (n : NamedProgram) (fs : List Function) (ps : List PortUse) (num : Numb
           pub well : (walk.Well n fs ps num H J here X V S E F L Z O I T) st (right_copy copies c scope r)
           pub value : is_right_side ≡ true → F (value_of c scope r)
 
-        call_by_well : (c : Context) (scope : Scope) (st : Stack) (around : Around) (k : ℕ) (b : Bool) (call : tree.Call) (o : Option Function) → function_named fs call.called.text ≡ o → function_named c.functions call.called.text ≡ o → (walk.Sits n fs ps num H J here X V S E F L Z O I T leaves gs) c scope st around → Resolves n (k + 1) st (marks.each marks.of_argument call.arguments) → is_some (option_map head_of o) ≡ true → (walk.CallFacts n fs ps num H J here X V S E F L Z O I T leaves gs) (k + 1) call.arguments b (option_map head_of o) →
+        call_by_well : (c : Context) (scope : Scope) (st : Stack) (around : Enclosing) (k : ℕ) (b : Bool) (call : tree.Call) (o : Option Function) → function_named fs call.called.text ≡ o → function_named c.functions call.called.text ≡ o → (walk.Sits n fs ps num H J here X V S E F L Z O I T leaves gs) c scope st around → Resolves n (k + 1) st (marks.each marks.of_argument call.arguments) → is_some (option_map head_of o) ≡ true → (walk.CallFacts n fs ps num H J here X V S E F L Z O I T leaves gs) (k + 1) call.arguments b (option_map head_of o) →
             C call → ShapedArguments X V S C call.arguments → (walk.Made n fs ps num H J here X V S E F L Z O I T) (call_by copies c scope call.called.pos call.arguments o) →
             (walk.Well n fs ps num H J here X V S E F L Z O I T) st (call_by copies c scope call.called.pos call.arguments o) × (b ≡ true → F (kernel.read (word_of c.numbering (path_of_result c call.called.pos o))))
         call_by_well c scope st around k b call None e q s r there facts x xs m = (walk.no n fs ps num H J here X V S E F L Z O I T leaves gs) there
@@ -53,7 +53,7 @@ module _ (n : NamedProgram) (fs : List Function) (ps : List PortUse) (num : Numb
             let w = calls_are call f e x c scope st around (k + 1) s r facts.1.1.1 xs long facts.1.0 m in
             (w.well, λ t. (walk.read_at_path n fs ps num H J here X V S E F L Z O I T leaves gs) c s.numbers (path_at (path_at c.path call.called.pos) f.head.name.pos) (w.result (facts.1.1.0 t)))
 
-        pub right_well : (c : Context) (scope : Scope) (st : Stack) (around : Around) (k : ℕ) (b : Bool) (r : tree.RightSide) → (walk.Sits n fs ps num H J here X V S E F L Z O I T leaves gs) c scope st around → Resolves n k st (marks.of_right r) → AllIn IsFine (site.of_right n around k b r) → ShapedRight X V S C r → (walk.Made n fs ps num H J here X V S E F L Z O I T) (right_copy copies c scope r) → RightWell c scope st b r
+        pub right_well : (c : Context) (scope : Scope) (st : Stack) (around : Enclosing) (k : ℕ) (b : Bool) (r : tree.RightSide) → (walk.Sits n fs ps num H J here X V S E F L Z O I T leaves gs) c scope st around → Resolves n k st (marks.of_right r) → AllIn IsFine (site.of_right n around k b r) → ShapedRight X V S C r → (walk.Made n fs ps num H J here X V S E F L Z O I T) (right_copy copies c scope r) → RightWell c scope st b r
         right_well c scope st around k b (tree.value e) s r g x m = record { well = (walk.nothing_well n fs ps num H J here X V S E F L Z O I T leaves gs) c scope st around s; value = λ t. (walk.ex_at n fs ps num H J here X V S E F L Z O I T leaves gs) c scope st around k e s r g x }
         right_well c scope st around k b (tree.result call) s r g x m =
             let meant = (walk.function_there n fs ps num H J here X V S E F L Z O I T leaves gs) c scope st around s call.called.text _ _ ((walk.standing n fs ps num H J here) st scope k call.called.text s.known r.0) g.0.0 in
@@ -65,14 +65,14 @@ module _ (n : NamedProgram) (fs : List Function) (ps : List PortUse) (num : Numb
             (subst (λ (o : Option Function). (walk.CallFacts n fs ps num H J here X V S E F L Z O I T leaves gs) (k + 1) call.arguments b (option_map head_of o)) (sym e) facts) x.0 x.1 m in
             record { well = w.0; value = w.1 }
 
-        initial_well : (c : Context) (path : Path) (r : Option tree.RightSide) (scope : Scope) (st : Stack) (around : Around) (k : ℕ) → (walk.Sits n fs ps num H J here X V S E F L Z O I T leaves gs) c scope st around → HasVariable num (H here) path false 1 → Resolves n k st (marks.optional marks.of_right r) → AllIn IsFine (site.optional (site.of_right n around k true) r) → ShapedMaybeRight X V S C r → (walk.Made n fs ps num H J here X V S E F L Z O I T) (initial_copy copies c path r scope) → (walk.Well n fs ps num H J here X V S E F L Z O I T) st (initial_copy copies c path r scope)
+        initial_well : (c : Context) (path : Path) (r : Option tree.RightSide) (scope : Scope) (st : Stack) (around : Enclosing) (k : ℕ) → (walk.Sits n fs ps num H J here X V S E F L Z O I T leaves gs) c scope st around → HasVariable num (H here) path false 1 → Resolves n k st (marks.optional marks.of_right r) → AllIn IsFine (site.optional (site.of_right n around k true) r) → ShapedMaybeRight X V S C r → (walk.Made n fs ps num H J here X V S E F L Z O I T) (initial_copy copies c path r scope) → (walk.Well n fs ps num H J here X V S E F L Z O I T) st (initial_copy copies c path r scope)
         initial_well c path None scope st around k s h r g x m = record { code = ((walk.zero_at_path n fs ps num H J here X V S E F L Z O I T leaves gs) c s.numbers path false 1 h, tt); scope = s.known }
         initial_well c path (Some e) scope st around k s h r g x m =
             let w = right_well c scope st around k true e s r g x ((walk.made_both n fs ps num H J here X V S E F L Z O I T) (right_copy copies c scope e) _ m).0 in
             record { code = both (walk.Good n fs ps num H J here X V S E F L Z O I T) (right_copy copies c scope e).code _ w.well.code (((walk.word_at_path n fs ps num H J here X V S E F L Z O I T leaves gs) c s.numbers path h, leaves.weaker _ (w.value refl)), tt); scope = s.known }
 
         -- behind a declaration
-        kind_well : (c : Context) (scope : Scope) (st : Stack) (around : Around) (k : ℕ) (name : Id) (kind : tree.Kind) → (walk.Sits n fs ps num H J here X V S E F L Z O I T leaves gs) c scope st around → Resolves n k st (marks.of_declaration (record { kind = kind; name = name })) → AllIn IsFine (site.of_kind n around (k + 1) kind) → ShapedKind X V S C kind → (walk.Made n fs ps num H J here X V S E F L Z O I T) (kind_copy copies c scope name.text name.pos kind) → (walk.Well n fs ps num H J here X V S E F L Z O I T) (after st (marks.of_declaration (record { kind = kind; name = name }))) (kind_copy copies c scope name.text name.pos kind)
+        kind_well : (c : Context) (scope : Scope) (st : Stack) (around : Enclosing) (k : ℕ) (name : Id) (kind : tree.Kind) → (walk.Sits n fs ps num H J here X V S E F L Z O I T leaves gs) c scope st around → Resolves n k st (marks.of_declaration (record { kind = kind; name = name })) → AllIn IsFine (site.of_kind n around (k + 1) kind) → ShapedKind X V S C kind → (walk.Made n fs ps num H J here X V S E F L Z O I T) (kind_copy copies c scope name.text name.pos kind) → (walk.Well n fs ps num H J here X V S E F L Z O I T) (after st (marks.of_declaration (record { kind = kind; name = name }))) (kind_copy copies c scope name.text name.pos kind)
         kind_well c scope st around k name (tree.word u r) s rs g x m =
             let d : Decl = record { name = name; what = what.Word u } in
             let path = path_at c.path name.pos in
@@ -102,7 +102,7 @@ module _ (n : NamedProgram) (fs : List Function) (ps : List PortUse) (num : Numb
             let v = g w k.1 in
             record { code = both (walk.Good n fs ps num H J here X V S E F L Z O I T) a.code (next a.scope).code w.code v.code; scope = v.scope }
 
-        pub declarations_well : (ds : List tree.Declaration) (c : Context) (scope : Scope) (st : Stack) (around : Around) (k : ℕ) → (walk.Sits n fs ps num H J here X V S E F L Z O I T leaves gs) c scope st around → Resolves n k st (marks.each marks.of_declaration ds) → AllIn IsFine (site.of_declarations n around k ds) → ShapedDeclarations X V S C ds → (walk.Made n fs ps num H J here X V S E F L Z O I T) (declarations_copy copies c ds scope) → (walk.Well n fs ps num H J here X V S E F L Z O I T) (after st (marks.each marks.of_declaration ds)) (declarations_copy copies c ds scope)
+        pub declarations_well : (ds : List tree.Declaration) (c : Context) (scope : Scope) (st : Stack) (around : Enclosing) (k : ℕ) → (walk.Sits n fs ps num H J here X V S E F L Z O I T leaves gs) c scope st around → Resolves n k st (marks.each marks.of_declaration ds) → AllIn IsFine (site.of_declarations n around k ds) → ShapedDeclarations X V S C ds → (walk.Made n fs ps num H J here X V S E F L Z O I T) (declarations_copy copies c ds scope) → (walk.Well n fs ps num H J here X V S E F L Z O I T) (after st (marks.each marks.of_declaration ds)) (declarations_copy copies c ds scope)
         declarations_well [] c scope st around k s r g x m = (walk.nothing_well n fs ps num H J here X V S E F L Z O I T leaves gs) c scope st around s
         declarations_well (d ∷ ds) c scope st around k s r g x m =
             let r2 = resolves_both n k st (marks.of_declaration d) (marks.each marks.of_declaration ds) r in
@@ -115,7 +115,7 @@ module _ (n : NamedProgram) (fs : List Function) (ps : List PortUse) (num : Numb
 
         -- assignments
 
-        pub assign_well : (c : Context) (scope : Scope) (st : Stack) (around : Around) (k : ℕ) (to : tree.Expression) (symbol : ℕ) (pos : Pos) (r : tree.RightSide) (b : Bool) → (walk.Sits n fs ps num H J here X V S E F L Z O I T leaves gs) c scope st around → Resolves n k st (marks.of_expression to ++ marks.of_right r) → AllIn IsFine (site.of_lval n k to ++ site.of_right n around (past k (marks.of_expression to)) true r) → V to → S symbol → ShapedRight X V S C r → OnlyValue X V S C b r → (walk.Made n fs ps num H J here X V S E F L Z O I T) (assign_by copies c scope to symbol pos r b) → (walk.Well n fs ps num H J here X V S E F L Z O I T) st (assign_by copies c scope to symbol pos r b)
+        pub assign_well : (c : Context) (scope : Scope) (st : Stack) (around : Enclosing) (k : ℕ) (to : tree.Expression) (symbol : ℕ) (pos : Pos) (r : tree.RightSide) (b : Bool) → (walk.Sits n fs ps num H J here X V S E F L Z O I T leaves gs) c scope st around → Resolves n k st (marks.of_expression to ++ marks.of_right r) → AllIn IsFine (site.of_lval n k to ++ site.of_right n around (past k (marks.of_expression to)) true r) → V to → S symbol → ShapedRight X V S C r → OnlyValue X V S C b r → (walk.Made n fs ps num H J here X V S E F L Z O I T) (assign_by copies c scope to symbol pos r b) → (walk.Well n fs ps num H J here X V S E F L Z O I T) st (assign_by copies c scope to symbol pos r b)
         assign_well c scope st around k to symbol pos r true s rs g v y x o m =
             let r2 = quiet_split n k st (marks.of_expression to) (marks.of_right r) (quiet_expression to) rs in
             let g2 = split IsFine (site.of_lval n k to) _ g in
@@ -129,7 +129,7 @@ module _ (n : NamedProgram) (fs : List Function) (ps : List PortUse) (num : Numb
             record { code = (((walk.lval_at n fs ps num H J here X V S E F L Z O I T leaves gs) c scope st around k to s r2.0 g2.0 v, up), tt); scope = s.known }
         assign_well c scope st around k to symbol pos (tree.result call) false s rs g v y x o m = absurd o
 
-        pub step_well : (c : Context) (scope : Scope) (st : Stack) (around : Around) (k : ℕ) (to : tree.Expression) (symbol : ℕ) (pos : Pos) → (walk.Sits n fs ps num H J here X V S E F L Z O I T leaves gs) c scope st around → Resolves n k st (marks.of_expression to) → AllIn IsFine (site.of_lval n k to) → V to → S symbol → AllIn (walk.Good n fs ps num H J here X V S E F L Z O I T) (kernel.set (place c scope to) (updated c.numbering scope to symbol pos false (kernel.number 1)) ∷ [])
+        pub step_well : (c : Context) (scope : Scope) (st : Stack) (around : Enclosing) (k : ℕ) (to : tree.Expression) (symbol : ℕ) (pos : Pos) → (walk.Sits n fs ps num H J here X V S E F L Z O I T leaves gs) c scope st around → Resolves n k st (marks.of_expression to) → AllIn IsFine (site.of_lval n k to) → V to → S symbol → AllIn (walk.Good n fs ps num H J here X V S E F L Z O I T) (kernel.set (place c scope to) (updated c.numbering scope to symbol pos false (kernel.number 1)) ∷ [])
         step_well c scope st around k to symbol pos s r g v y = (
           (
             (walk.lval_at n fs ps num H J here X V S E F L Z O I T leaves gs) c scope st around k to s r g v,
@@ -139,10 +139,10 @@ module _ (n : NamedProgram) (fs : List Function) (ps : List PortUse) (num : Numb
         )
 
         -- a `return`
-        result_is : (c : Context) (scope : Scope) (st : Stack) (around : Around) → (walk.Sits n fs ps num H J here X V S E F L Z O I T leaves gs) c scope st around → agree true (is_some around.function.result) ≡ true → in_par_or_transaction around.holders ≡ false → HasVariable num (H here) c.result false 1
+        result_is : (c : Context) (scope : Scope) (st : Stack) (around : Enclosing) → (walk.Sits n fs ps num H J here X V S E F L Z O I T leaves gs) c scope st around → agree true (is_some around.function.result) ≡ true → in_par_or_transaction around.holders ≡ false → HasVariable num (H here) c.result false 1
         result_is c scope st around s e f = s.result_there (f, e)
 
-        pub return_well : (c : Context) (scope : Scope) (st : Stack) (around : Around) (k : ℕ) (r : Option tree.RightSide) → (walk.Sits n fs ps num H J here X V S E F L Z O I T leaves gs) c scope st around → Resolves n k st (marks.optional marks.of_right r) → (agree (is_some r) (is_some around.function.result) ≡ true) × (in_par_or_transaction around.holders ≡ false) → AllIn IsFine (site.optional (site.of_right n around k true) r) → ShapedMaybeRight X V S C r → (walk.Made n fs ps num H J here X V S E F L Z O I T) (return_copy copies c scope r) → (walk.Well n fs ps num H J here X V S E F L Z O I T) st (return_copy copies c scope r)
+        pub return_well : (c : Context) (scope : Scope) (st : Stack) (around : Enclosing) (k : ℕ) (r : Option tree.RightSide) → (walk.Sits n fs ps num H J here X V S E F L Z O I T leaves gs) c scope st around → Resolves n k st (marks.optional marks.of_right r) → (agree (is_some r) (is_some around.function.result) ≡ true) × (in_par_or_transaction around.holders ≡ false) → AllIn IsFine (site.optional (site.of_right n around k true) r) → ShapedMaybeRight X V S C r → (walk.Made n fs ps num H J here X V S E F L Z O I T) (return_copy copies c scope r) → (walk.Well n fs ps num H J here X V S E F L Z O I T) st (return_copy copies c scope r)
         return_well c scope st around k None s rs a g x m = record { code = (tt, tt); scope = s.known }
         return_well c scope st around k (Some r) s rs a g x m =
             let w = right_well c scope st around k true r s rs g x ((walk.made_both n fs ps num H J here X V S E F L Z O I T) (right_copy copies c scope r) _ m).0 in
@@ -150,19 +150,19 @@ module _ (n : NamedProgram) (fs : List Function) (ps : List PortUse) (num : Numb
 
         -- transfers
 
-        time_well : (c : Context) (scope : Scope) (st : Stack) (around : Around) (k : ℕ) (y : Name) (o : Option tree.Timing) → (walk.Sits n fs ps num H J here X V S E F L Z O I T leaves gs) c scope st around → Resolves n k st (marks.optional marks.of_timing o) → AllIn IsFine (site.optional (site.of_time n k y) o) → ShapedTime X V S C o → EachMaybe E L Z O I T (option_map (time_of c scope) o)
+        time_well : (c : Context) (scope : Scope) (st : Stack) (around : Enclosing) (k : ℕ) (y : Name) (o : Option tree.Timing) → (walk.Sits n fs ps num H J here X V S E F L Z O I T leaves gs) c scope st around → Resolves n k st (marks.optional marks.of_timing o) → AllIn IsFine (site.optional (site.of_time n k y) o) → ShapedTime X V S C o → EachMaybe E L Z O I T (option_map (time_of c scope) o)
         time_well c scope st around k y None s r g x = tt
         time_well c scope st around k y (Some t) s r g x = (walk.test_at n fs ps num H J here X V S E F L Z O I T leaves gs) c scope st around k t.value s r g.1 x
 
-        stamp_well : (c : Context) (scope : Scope) (st : Stack) (around : Around) (k : ℕ) (y : Name) (o : Option tree.Timing) → (walk.Sits n fs ps num H J here X V S E F L Z O I T leaves gs) c scope st around → Resolves n k st (marks.optional marks.of_timing o) → AllIn IsFine (site.optional (site.of_stamp n k y) o) → ShapedStamp X V S C o → EachPlace E L Z O I T (option_map (stamp_of c scope) o)
+        stamp_well : (c : Context) (scope : Scope) (st : Stack) (around : Enclosing) (k : ℕ) (y : Name) (o : Option tree.Timing) → (walk.Sits n fs ps num H J here X V S E F L Z O I T leaves gs) c scope st around → Resolves n k st (marks.optional marks.of_timing o) → AllIn IsFine (site.optional (site.of_stamp n k y) o) → ShapedStamp X V S C o → EachPlace E L Z O I T (option_map (stamp_of c scope) o)
         stamp_well c scope st around k y None s r g x = tt
         stamp_well c scope st around k y (Some t) s r g x = (walk.lval_at n fs ps num H J here X V S E F L Z O I T leaves gs) c scope st around k t.value s r g.1 x
 
-        condition_well : (c : Context) (scope : Scope) (st : Stack) (around : Around) (k : ℕ) (y : Name) (o : Option tree.Condition) → (walk.Sits n fs ps num H J here X V S E F L Z O I T leaves gs) c scope st around → Resolves n k st (marks.optional marks.of_condition o) → AllIn IsFine (site.optional (site.of_condition n k y) o) → ShapedCondition X V S C o → EachCondition E L Z O I T (option_map (condition_of c scope) o)
+        condition_well : (c : Context) (scope : Scope) (st : Stack) (around : Enclosing) (k : ℕ) (y : Name) (o : Option tree.Condition) → (walk.Sits n fs ps num H J here X V S E F L Z O I T leaves gs) c scope st around → Resolves n k st (marks.optional marks.of_condition o) → AllIn IsFine (site.optional (site.of_condition n k y) o) → ShapedCondition X V S C o → EachCondition E L Z O I T (option_map (condition_of c scope) o)
         condition_well c scope st around k y None s r g x = tt
         condition_well c scope st around k y (Some t) s r g x = (walk.test_at n fs ps num H J here X V S E F L Z O I T leaves gs) c scope st around k t.value s r g.1 x
 
-        pub output_well : (c : Context) (scope : Scope) (st : Stack) (around : Around) (k : ℕ) (o : tree.Output) → (walk.Sits n fs ps num H J here X V S E F L Z O I T leaves gs) c scope st around → Resolves n k st (marks.of_output o) → AllIn IsFine (site.of_output n k o) → ShapedOutput X V S C o → EachOutput E L Z O I T (output_of c scope o)
+        pub output_well : (c : Context) (scope : Scope) (st : Stack) (around : Enclosing) (k : ℕ) (o : tree.Output) → (walk.Sits n fs ps num H J here X V S E F L Z O I T leaves gs) c scope st around → Resolves n k st (marks.of_output o) → AllIn IsFine (site.of_output n k o) → ShapedOutput X V S C o → EachOutput E L Z O I T (output_of c scope o)
         output_well c scope st around k o s r g x =
             let y = name_at n k o.name in
             let q = quiet_optional marks.of_timing quiet_timing o.time in
@@ -183,7 +183,7 @@ module _ (n : NamedProgram) (fs : List Function) (ps : List PortUse) (num : Numb
         target_known c scope st tree.dropped on a m = a
         target_known c scope st (tree.fresh u name) on a m = (walk.with_declared n fs ps num H J here) st scope (record { name = name; what = what.Word u }) (a_word (path_at c.path name.pos) u) (λ t. a_variable ((walk.own_variable n fs ps num H J here) c.core (path_at c.path name.pos) false 1 on m.variables.0)) (c.path, refl) a
 
-        target_well : (c : Context) (scope : Scope) (st : Stack) (around : Around) (k : ℕ) (t : tree.Target) → (walk.Sits n fs ps num H J here X V S E F L Z O I T leaves gs) c scope st around → Resolves n k st (marks.of_target t) → AllIn IsFine (site.of_target n k t) → ShapedTarget X V S C t → (walk.Made n fs ps num H J here X V S E F L Z O I T) (target_copy c scope t) → EachPlace E L Z O I T (target_of c scope t)
+        target_well : (c : Context) (scope : Scope) (st : Stack) (around : Enclosing) (k : ℕ) (t : tree.Target) → (walk.Sits n fs ps num H J here X V S E F L Z O I T leaves gs) c scope st around → Resolves n k st (marks.of_target t) → AllIn IsFine (site.of_target n k t) → ShapedTarget X V S C t → (walk.Made n fs ps num H J here X V S E F L Z O I T) (target_copy c scope t) → EachPlace E L Z O I T (target_of c scope t)
         target_well c scope st around k (tree.to e) s r g x m = (walk.lval_at n fs ps num H J here X V S E F L Z O I T leaves gs) c scope st around k e s r g x
         target_well c scope st around k tree.dropped s r g x m = tt
         target_well c scope st around k (tree.fresh u name) s r g x m = (walk.word_at_path n fs ps num H J here X V S E F L Z O I T leaves gs) c s.numbers (path_at c.path name.pos) ((walk.own_variable n fs ps num H J here) c.core (path_at c.path name.pos) false 1 s.core_is m.variables.0)
@@ -201,7 +201,7 @@ module _ (n : NamedProgram) (fs : List Function) (ps : List PortUse) (num : Numb
         pub input_known : (c : Context) (scope : Scope) (st : Stack) (i : tree.Input) → c.core ≡ here → (walk.Known n fs ps num H J here) st scope → (walk.Made n fs ps num H J here X V S E F L Z O I T) (input_names c scope i) → (walk.Known n fs ps num H J here) (after st (marks.of_input i)) (input_names c scope i).scope
         input_known c scope st i on a m = subst (λ (x : Stack). (walk.Known n fs ps num H J here) x (target_copy c scope i.target).scope) (sym (behind_input st i)) (target_known c scope st i.target on a (record { variables = m.variables; channels = m.channels; timers = m.timers }))
 
-        pub input_well : (c : Context) (scope : Scope) (st : Stack) (around : Around) (k : ℕ) (i : tree.Input) → (walk.Sits n fs ps num H J here X V S E F L Z O I T leaves gs) c scope st around → Resolves n k st (marks.of_input i) → AllIn IsFine (site.of_input n k i) → ShapedInput X V S C i → (walk.Made n fs ps num H J here X V S E F L Z O I T) (input_names c scope i) → EachInput E L Z O I T (input_of c scope i)
+        pub input_well : (c : Context) (scope : Scope) (st : Stack) (around : Enclosing) (k : ℕ) (i : tree.Input) → (walk.Sits n fs ps num H J here X V S E F L Z O I T leaves gs) c scope st around → Resolves n k st (marks.of_input i) → AllIn IsFine (site.of_input n k i) → ShapedInput X V S C i → (walk.Made n fs ps num H J here X V S E F L Z O I T) (input_names c scope i) → EachInput E L Z O I T (input_of c scope i)
         input_well c scope st around k i s r g x m =
             let y = name_at n k i.name in
             let r2 = quiet_split n (k + 1) st (marks.optional marks.of_timing i.time) (marks.optional marks.of_condition i.condition ++ (marks.of_target i.target ++ marks.optional marks.of_timing i.stamp)) (quiet_optional marks.of_timing quiet_timing i.time) r.1 in
@@ -310,7 +310,7 @@ module _ (n : NamedProgram) (fs : List Function) (ps : List PortUse) (num : Numb
           pub code : EachBranch E L Z O I T bs
           pub known : (walk.Known n fs ps num H J here) st scope
 
-        pub numbered_well : (b : tree.Branch) (c : Context) (scope : Scope) (name : Id) (st : Stack) (around : Around) → (walk.Sits n fs ps num H J here X V S E F L Z O I T leaves gs) c scope st around → (count index number : ℕ) →
+        pub numbered_well : (b : tree.Branch) (c : Context) (scope : Scope) (name : Id) (st : Stack) (around : Enclosing) → (walk.Sits n fs ps num H J here X V S E F L Z O I T leaves gs) c scope st around → (count index number : ℕ) →
             ((d : Context) (other : Scope) → (walk.Sits n fs ps num H J here X V S E F L Z O I T leaves gs) d other (with_decl (record { name = name; what = what.Index }) ([] ∷ st)) around → (walk.Made n fs ps num H J here X V S E F L Z O I T) (branch_copy copies b d other) → AllIn (walk.Good n fs ps num H J here X V S E F L Z O I T) (branch_copy copies b d other).code) →
             (walk.Made n fs ps num H J here X V S E F L Z O I T) (replicated (numbered_copy (branch_copy copies b) c scope name.text) (pos_of_branch b) scope count index number).made →
             BranchesWell st (replicated (numbered_copy (branch_copy copies b) c scope name.text) (pos_of_branch b) scope count index number).made.scope (replicated (numbered_copy (branch_copy copies b) c scope name.text) (pos_of_branch b) scope count index number).branches
@@ -333,10 +333,10 @@ module _ (n : NamedProgram) (fs : List Function) (ps : List PortUse) (num : Numb
         cases_end st tree.no_case = refl
         cases_end st (tree.more_cases a cs) = after_both st (marks.of_case a) (marks.of_cases cs) ∙ ap (λ (z : Stack). after z (marks.of_cases cs)) (case_ends st a) ∙ cases_end st cs
 
-        pub or_one : (c : Context) (scope : Scope) (st : Stack) (around : Around) (k : ℕ) (e : Option tree.Expression) → (walk.Sits n fs ps num H J here X V S E F L Z O I T leaves gs) c scope st around → Resolves n k st (marks.optional marks.of_expression e) → AllIn IsFine (site.optional (site.of_expression n k) e) → ShapedMaybeExpression X V S C e → E (test_or_true (maybe_expression c scope e))
+        pub or_one : (c : Context) (scope : Scope) (st : Stack) (around : Enclosing) (k : ℕ) (e : Option tree.Expression) → (walk.Sits n fs ps num H J here X V S E F L Z O I T leaves gs) c scope st around → Resolves n k st (marks.optional marks.of_expression e) → AllIn IsFine (site.optional (site.of_expression n k) e) → ShapedMaybeExpression X V S C e → E (test_or_true (maybe_expression c scope e))
         or_one c scope st around k None s r g x = leaves.weaker _ leaves.one
         or_one c scope st around k (Some e) s r g x = (walk.test_at n fs ps num H J here X V S E F L Z O I T leaves gs) c scope st around k e s r g x
 
-        pub guard_well : (c : Context) (scope : Scope) (st : Stack) (around : Around) (k : ℕ) (e : Option tree.Expression) → (walk.Sits n fs ps num H J here X V S E F L Z O I T leaves gs) c scope st around → Resolves n k st (marks.optional marks.of_expression e) → AllIn IsFine (site.optional (site.of_expression n k) e) → ShapedMaybeExpression X V S C e → EachMaybe E L Z O I T (maybe_expression c scope e)
+        pub guard_well : (c : Context) (scope : Scope) (st : Stack) (around : Enclosing) (k : ℕ) (e : Option tree.Expression) → (walk.Sits n fs ps num H J here X V S E F L Z O I T leaves gs) c scope st around → Resolves n k st (marks.optional marks.of_expression e) → AllIn IsFine (site.optional (site.of_expression n k) e) → ShapedMaybeExpression X V S C e → EachMaybe E L Z O I T (maybe_expression c scope e)
         guard_well c scope st around k None s r g x = tt
         guard_well c scope st around k (Some e) s r g x = (walk.test_at n fs ps num H J here X V S E F L Z O I T leaves gs) c scope st around k e s r g x

@@ -12,7 +12,7 @@ use Rattle.xc_tree.specs.Names.Marks as marks
 use Rattle.xc_tree.specs.Types.Named.{NamedProgram, what_of, past}
 use Rattle.xc_tree.specs.Types.Sites.{Site}
 use Rattle.xc_tree.specs.Types.Sites as site
-use Rattle.xc_tree.specs.Shapes.Around.{Around, a_branch, inside, in_block_of}
+use Rattle.xc_tree.specs.Shapes.Enclosing.{Enclosing, a_branch, inside, in_block_of}
 use Rattle.xc_kernel.specs.declared.kernel.PortUse.{PortUse}
 use Rattle.xc_kernel.specs.Plain as kernel
 use Rattle.xc_kernel.specs.Paths.{Path, path_at}
@@ -29,7 +29,7 @@ use Rattle.xc_tree.specs.Shapes.Main.{is_channel_kind, are_channels, is_return_a
 use Rattle.xc_kernel.specs.Roots as roots
 use Rattle.xc_kernel.specs.Ports.{core_of}
 use Rattle.xc_wellformed.specs.Stacks.{Frame, Stack, found, with_decl, after, Resolves}
-use Rattle.xc_wellformed.specs.Standing.{Stands, a_variable, whole_array, word_referred, element_referred, array_referred, the_channel, the_end, the_timer, the_port, port_given, the_index, the_function, none_there}
+use Rattle.xc_wellformed.specs.Denotes.{Denotes, a_variable, whole_array, word_referred, element_referred, array_referred, the_channel, the_end, the_timer, the_port, port_given, the_index, the_function, none_there}
 use Rattle.xc_wellformed.specs.Each.{EachRootOn}
 use Rattle.xc_wellformed.proofs.Shaped.{ShapedStatement, ShapedStatements, ShapedBranch, ShapedBranches, Deep}
 use Rattle.xc_wellformed.proofs.Talks.{calls_silent}
@@ -49,7 +49,7 @@ OnPaths H J (a_timer path) = J path
 OnPaths H J other = Unit {0}
 
 module _ (n : NamedProgram) (fs : List Function) (ps : List PortUse) (num : Numbering) (H J G K : Path → Type 0) where
-  paths_of : (t : List ℕ) (w : Option What) (x : Entity) → Stands n fs ps num H J t w x → OnPaths H J x
+  paths_of : (t : List ℕ) (w : Option What) (x : Entity) → Denotes n fs ps num H J t w x → OnPaths H J x
   paths_of t _ _ (a_variable h) = h.holds
   paths_of t _ _ (whole_array h) = h.holds
   paths_of t _ _ (word_referred h) = h.holds
@@ -64,7 +64,7 @@ module _ (n : NamedProgram) (fs : List Function) (ps : List PortUse) (num : Numb
   paths_of t _ _ (the_function h) = tt
   paths_of t _ _ none_there = tt
 
-  stands_with : (t : List ℕ) (w : Option What) (x : Entity) → OnPaths G K x → Stands n fs ps num H J t w x → Stands n fs ps num G K t w x
+  stands_with : (t : List ℕ) (w : Option What) (x : Entity) → OnPaths G K x → Denotes n fs ps num H J t w x → Denotes n fs ps num G K t w x
   stands_with t _ _ k (a_variable h) = a_variable (record { variable = h.variable; there = h.there; array = h.array; long = h.long; holds = k })
   stands_with t _ _ k (whole_array h) = whole_array (record { variable = h.variable; there = h.there; array = h.array; long = h.long; holds = k })
   stands_with t _ _ k (word_referred h) = word_referred (record { variable = h.variable; there = h.there; array = h.array; long = h.long; holds = k })
@@ -115,7 +115,7 @@ module _ (n : NamedProgram) (fs : List Function) (ps : List PortUse) (num : Numb
           pub ports_known : Known (gs ∷ []) c.ports
           pub known : Known st scope
 
-        in_a_branch : (c : Context) (here : ℕ) (scope : Scope) (st : Stack) (around : Around) → Stays c scope st → (walk.Sits n fs ps num H J here X V S (E here) (F here) (L here) (Z here) (O here) (I here) (T here) (leaves here) gs) (record c { core = here }) scope st (inside a_branch around)
+        in_a_branch : (c : Context) (here : ℕ) (scope : Scope) (st : Stack) (around : Enclosing) → Stays c scope st → (walk.Sits n fs ps num H J here X V S (E here) (F here) (L here) (Z here) (O here) (I here) (T here) (leaves here) gs) (record c { core = here }) scope st (inside a_branch around)
         in_a_branch c here scope st around s = record { numbers = s.numbers; core_is = refl; functions_are = s.functions_are; ports_known = s.ports_known here; result_there = λ t. absurd (true≢false t.0); known = s.known here }
 
         other_names : (c : Context) (index : ℕ) (scope other : Scope) (st su : Stack) → Known su other → Stays c scope st → Stays (in_branch c index) other su
@@ -156,7 +156,7 @@ module _ (n : NamedProgram) (fs : List Function) (ps : List PortUse) (num : Numb
           abbrev calls : CopiesCall
           calls = calls_copy depth
 
-          root_well : (main : Pos) (b : tree.Branch) (c : Context) (scope : Scope) (st : Stack) (around : Around) (k : ℕ) → Stays c scope st → Resolves n k st (marks.of_branch b) → AllIn IsFine (site.of_branch n around k b) → ShapedBranch X V S C b → Made (roots.branch_root calls main b c scope).made → RootsGood (roots.branch_root calls main b c scope).roots × (AllIn A (roots.branch_root calls main b c scope).roots → BranchStays b → Known (after st (marks.of_branch b)) (roots.branch_root calls main b c scope).made.scope)
+          root_well : (main : Pos) (b : tree.Branch) (c : Context) (scope : Scope) (st : Stack) (around : Enclosing) (k : ℕ) → Stays c scope st → Resolves n k st (marks.of_branch b) → AllIn IsFine (site.of_branch n around k b) → ShapedBranch X V S C b → Made (roots.branch_root calls main b c scope).made → RootsGood (roots.branch_root calls main b c scope).roots × (AllIn A (roots.branch_root calls main b c scope).roots → BranchStays b → Known (after st (marks.of_branch b)) (roots.branch_root calls main b c scope).made.scope)
           root_well main (tree.branch place t) c scope st around k s r g x m =
               let mp = marks.optional marks.of_place place in
               let q = quiet_optional marks.of_place quiet_place place in
@@ -172,7 +172,7 @@ module _ (n : NamedProgram) (fs : List Function) (ps : List PortUse) (num : Numb
                     (known_behind _ a.0 scope ct st (after st (marks.of_statement t)) (λ u. subst (λ (e : Numbering). Leaks e scope ct u) s.numbers (statement_leaks calls (calls_keep depth) t z d scope u)) s.known w.scope),
               )
 
-          branch_roots_well : (main : Pos) (bs : tree.Branches) (index : ℕ) (c : Context) (scope : Scope) (st : Stack) (around : Around) (k : ℕ) → BranchesStay bs → Stays c scope st → Resolves n k st (marks.of_branches bs) → AllIn IsFine (site.of_branches n around k bs) → ShapedBranches X V S C bs → Made (roots.branch_roots calls main bs index c scope).made → AllIn A (roots.branch_roots calls main bs index c scope).roots → RootsGood (roots.branch_roots calls main bs index c scope).roots
+          branch_roots_well : (main : Pos) (bs : tree.Branches) (index : ℕ) (c : Context) (scope : Scope) (st : Stack) (around : Enclosing) (k : ℕ) → BranchesStay bs → Stays c scope st → Resolves n k st (marks.of_branches bs) → AllIn IsFine (site.of_branches n around k bs) → ShapedBranches X V S C bs → Made (roots.branch_roots calls main bs index c scope).made → AllIn A (roots.branch_roots calls main bs index c scope).roots → RootsGood (roots.branch_roots calls main bs index c scope).roots
           branch_roots_well main tree.no_branch index c scope st around k z s r g x m l = tt
           branch_roots_well main (tree.more_branches b bs) index c scope st around k z s r g x m l =
               let a = roots.branch_root calls main b (in_branch c index) scope in
@@ -186,7 +186,7 @@ module _ (n : NamedProgram) (fs : List Function) (ps : List PortUse) (num : Numb
               let v = branch_roots_well main bs (index + 1) c a.made.scope su around (past k (marks.of_branch b)) z.1 (same_place c scope a.made.scope st su (w.1 l1.0 z.0) s) r1.1 g1.1 x.1 m1.1 l1.1 in
               more_roots a.roots rest.roots w.0 v
 
-          numbered_roots_well : (main : Pos) (b : tree.Branch) (name : Id) (c : Context) (scope : Scope) (st : Stack) (around : Around) (k count index number : ℕ) → Stays c scope st → Resolves n k (with_decl (record { name = name; what = what.Index }) ([] ∷ st)) (marks.of_branch b) → AllIn IsFine (site.of_branch n around k b) → ShapedBranch X V S C b → Made (roots.numbered_roots calls main b name.text c scope count index number).made → RootsGood (roots.numbered_roots calls main b name.text c scope count index number).roots
+          numbered_roots_well : (main : Pos) (b : tree.Branch) (name : Id) (c : Context) (scope : Scope) (st : Stack) (around : Enclosing) (k count index number : ℕ) → Stays c scope st → Resolves n k (with_decl (record { name = name; what = what.Index }) ([] ∷ st)) (marks.of_branch b) → AllIn IsFine (site.of_branch n around k b) → ShapedBranch X V S C b → Made (roots.numbered_roots calls main b name.text c scope count index number).made → RootsGood (roots.numbered_roots calls main b name.text c scope count index number).roots
           numbered_roots_well main b name c scope st around k zero index number s r g x m = tt
           numbered_roots_well main b name c scope st around k (suc count) index number s r g x m =
               let d : Decl = record { name = name; what = what.Index } in
@@ -218,7 +218,7 @@ module _ (n : NamedProgram) (fs : List Function) (ps : List PortUse) (num : Numb
           return_roots main (tree.more (tree.statement (tree.return_with r) p close own) tree.no_more) c scope e = tt
           return_roots main other c scope e = no e
 
-          block_roots_well : (main : Pos) (ss : tree.Statements) (c : Context) (scope : Scope) (st : Stack) (around : Around) (k : ℕ) → is_channels_par_return ss ≡ true → AllStand ss → Stays c scope st → Resolves n k st (marks.of_statements ss) → AllIn IsFine (site.of_statements n around k ss) → ShapedStatements X V S C ss → Made (roots.block_roots calls main ss c scope).made → AllIn A (roots.block_roots calls main ss c scope).roots → RootsGood (roots.block_roots calls main ss c scope).roots
+          block_roots_well : (main : Pos) (ss : tree.Statements) (c : Context) (scope : Scope) (st : Stack) (around : Enclosing) (k : ℕ) → is_channels_par_return ss ≡ true → AllStand ss → Stays c scope st → Resolves n k st (marks.of_statements ss) → AllIn IsFine (site.of_statements n around k ss) → ShapedStatements X V S C ss → Made (roots.block_roots calls main ss c scope).made → AllIn A (roots.block_roots calls main ss c scope).roots → RootsGood (roots.block_roots calls main ss c scope).roots
           block_roots_well main (tree.more (tree.statement (tree.declare ds) p close own) ss) c scope st around k e z s r g x m l =
               let dc = declarations_copy calls c ds scope in
               let rest = roots.block_roots calls main ss c dc.scope in
@@ -287,7 +287,7 @@ module _ (n : NamedProgram) (fs : List Function) (ps : List PortUse) (num : Numb
           placed_well f (tree.statement (tree.block ss) p close own) c k form z s r g x e m l = block_roots_well f.head.name.pos ss c c.ports ([] ∷ gs ∷ []) (in_block_of f.head) k (form (block_placed ss e)) z s r g x m l
           placed_well f other c k form z s r g x e m l = no e
 
-          abbrev no_result : Around
+          abbrev no_result : Enclosing
           no_result = record { function = record { result = None; name = record { text = []; pos = record { line = 1; col = 1 } }; params = []; own = 0 }; holders = [] }
 
           main_well : (f : Function) (c : Context) → c.core ≡ 0 → MainRight f → ShapedStatement X V S C f.body → Stays c c.ports (gs ∷ []) → Made (roots.main_root calls f c).made → RootsGood (roots.main_root calls f c).roots

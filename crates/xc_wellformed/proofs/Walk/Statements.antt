@@ -10,7 +10,7 @@ use Rattle.xc_tree.specs.Types.Named.{NamedProgram, past}
 use Rattle.xc_tree.specs.Types.Calls.{arguments}
 use Rattle.xc_tree.specs.Types.Sites.{Site}
 use Rattle.xc_tree.specs.Types.Sites as site
-use Rattle.xc_tree.specs.Shapes.Around.{Around, a_block, an_if, a_loop, a_case, a_branch, a_transaction, inside, in_block_of, in_transaction}
+use Rattle.xc_tree.specs.Shapes.Enclosing.{Enclosing, a_block, an_if, a_loop, a_case, a_branch, a_transaction, inside, in_block_of, in_transaction}
 use Rattle.xc_kernel.specs.declared.kernel.PortUse.{PortUse}
 use Rattle.xc_kernel.specs.Plain as kernel
 use Rattle.xc_tree.specs.Symbols.{equals}
@@ -26,7 +26,7 @@ use Rattle.xc_kernel.specs.Transfers.{input_names}
 use Rattle.xc_kernel.specs.Flow.{first_of, test_or_true, leave_unless, case_scope}
 use Rattle.xc_kernel.specs.Statements.{statement_copy, action_copy, maybe_copy, statements_copy, branch_copy, branches_copy, cases_copy, calls_copy}
 use Rattle.xc_wellformed.specs.Stacks.{Frame, Stack, with_decl, after, Resolves}
-use Rattle.xc_wellformed.specs.Standing.{HasVariable}
+use Rattle.xc_wellformed.specs.Denotes.{HasVariable}
 use Rattle.xc_wellformed.specs.Each.{EachCase, EachDefault}
 use Rattle.xc_wellformed.proofs.Shaped.{ShapedArguments, ShapedStatement, ShapedAction, ShapedMaybe, ShapedStatements, ShapedBranch, ShapedBranches, ShapedCases, Deep}
 use Rattle.xc_wellformed.proofs.Talks.{one_talks, silent_both, silent_expression, silent_lval, silent_right, silent_maybe_right, silent_maybe_expression, silent_declarations, output_talks, input_talks, CallsSilent, calls_silent, right_names_none, assign_names_none, return_names_none, declarations_name_none}
@@ -41,10 +41,10 @@ module _ (n : NamedProgram) (fs : List Function) (ps : List PortUse) (num : Numb
     module _ (leaves : walk.Leaves n fs ps num H J here X V S E F L Z O I T) (gs : Frame) where
       module _ (C : tree.Call → Type 0) (copies : CopiesCall) (calls_are : (walk.CallsWell n fs ps num H J here X V S E F L Z O I T leaves gs) C copies) (mute : CallsSilent copies) where
         mutual
-          pub statement_well : (t : tree.Statement) (c : Context) (scope : Scope) (st : Stack) (around : Around) (k : ℕ) → (walk.Sits n fs ps num H J here X V S E F L Z O I T leaves gs) c scope st around → Resolves n k st (marks.of_statement t) → AllIn IsFine (site.of_statement n around k t) → ShapedStatement X V S C t → (walk.Made n fs ps num H J here X V S E F L Z O I T) (statement_copy copies t c scope) → (walk.Well n fs ps num H J here X V S E F L Z O I T) (after st (marks.of_statement t)) (statement_copy copies t c scope)
+          pub statement_well : (t : tree.Statement) (c : Context) (scope : Scope) (st : Stack) (around : Enclosing) (k : ℕ) → (walk.Sits n fs ps num H J here X V S E F L Z O I T leaves gs) c scope st around → Resolves n k st (marks.of_statement t) → AllIn IsFine (site.of_statement n around k t) → ShapedStatement X V S C t → (walk.Made n fs ps num H J here X V S E F L Z O I T) (statement_copy copies t c scope) → (walk.Well n fs ps num H J here X V S E F L Z O I T) (after st (marks.of_statement t)) (statement_copy copies t c scope)
           statement_well (tree.statement a pos close own) c scope st around k s r g x m = action_well a pos close c scope st around k s r g x m
 
-          action_well : (a : tree.Action) (pos close : Pos) (c : Context) (scope : Scope) (st : Stack) (around : Around) (k : ℕ) → (walk.Sits n fs ps num H J here X V S E F L Z O I T leaves gs) c scope st around → Resolves n k st (marks.of_action a) → AllIn IsFine (site.of_action n around k pos a) → ShapedAction X V S C a → (walk.Made n fs ps num H J here X V S E F L Z O I T) (action_copy copies a pos close c scope) → (walk.Well n fs ps num H J here X V S E F L Z O I T) (after st (marks.of_action a)) (action_copy copies a pos close c scope)
+          action_well : (a : tree.Action) (pos close : Pos) (c : Context) (scope : Scope) (st : Stack) (around : Enclosing) (k : ℕ) → (walk.Sits n fs ps num H J here X V S E F L Z O I T leaves gs) c scope st around → Resolves n k st (marks.of_action a) → AllIn IsFine (site.of_action n around k pos a) → ShapedAction X V S C a → (walk.Made n fs ps num H J here X V S E F L Z O I T) (action_copy copies a pos close c scope) → (walk.Well n fs ps num H J here X V S E F L Z O I T) (after st (marks.of_action a)) (action_copy copies a pos close c scope)
           action_well tree.empty pos close c scope st around k s r g x m = (walk.nothing_well n fs ps num H J here X V S E F L Z O I T leaves gs) c scope st around s
           action_well (tree.block ss) pos close c scope st around k s r g x m =
               let r2 = resolves_both n k ([] ∷ st) (marks.of_statements ss) (Closes ∷ []) r in
@@ -164,10 +164,10 @@ module _ (n : NamedProgram) (fs : List Function) (ps : List PortUse) (num : Numb
               (record { code = ((subst (λ (q : Numbering). T (channel_number q (first_of cb.named))) (sym s.numbers) on, (walk.as_statements n fs ps num H J here X V S E F L Z O I T) cb.code w.code), tt); scope = s.known })
 
           -- a part of a transaction, which has (walk.no n fs ps num H J here X V S E F L Z O I T leaves gs) `par`, (walk.no n fs ps num H J here X V S E F L Z O I T leaves gs) `select` and (walk.no n fs ps num H J here X V S E F L Z O I T leaves gs) transaction
-          statement_heard : (t : tree.Statement) (c : Context) (scope : Scope) (st : Stack) (around : Around) (k : ℕ) → in_transaction around.holders ≡ true → (walk.Sits n fs ps num H J here X V S E F L Z O I T leaves gs) c scope st around → Resolves n k st (marks.of_statement t) → AllIn IsFine (site.of_statement n around k t) → ShapedStatement X V S C t → (walk.Made n fs ps num H J here X V S E F L Z O I T) (statement_copy copies t c scope) → (part.Heard n fs ps num H J here X V S E F L Z O I T leaves gs C copies calls_are mute) (site.of_statement n around k t) (statement_copy copies t c scope)
+          statement_heard : (t : tree.Statement) (c : Context) (scope : Scope) (st : Stack) (around : Enclosing) (k : ℕ) → in_transaction around.holders ≡ true → (walk.Sits n fs ps num H J here X V S E F L Z O I T leaves gs) c scope st around → Resolves n k st (marks.of_statement t) → AllIn IsFine (site.of_statement n around k t) → ShapedStatement X V S C t → (walk.Made n fs ps num H J here X V S E F L Z O I T) (statement_copy copies t c scope) → (part.Heard n fs ps num H J here X V S E F L Z O I T leaves gs C copies calls_are mute) (site.of_statement n around k t) (statement_copy copies t c scope)
           statement_heard (tree.statement a pos close own) c scope st around k i s r g x m = action_heard a pos close c scope st around k i s r g x m
 
-          action_heard : (a : tree.Action) (pos close : Pos) (c : Context) (scope : Scope) (st : Stack) (around : Around) (k : ℕ) → in_transaction around.holders ≡ true → (walk.Sits n fs ps num H J here X V S E F L Z O I T leaves gs) c scope st around → Resolves n k st (marks.of_action a) → AllIn IsFine (site.of_action n around k pos a) → ShapedAction X V S C a → (walk.Made n fs ps num H J here X V S E F L Z O I T) (action_copy copies a pos close c scope) → (part.Heard n fs ps num H J here X V S E F L Z O I T leaves gs C copies calls_are mute) (site.of_action n around k pos a) (action_copy copies a pos close c scope)
+          action_heard : (a : tree.Action) (pos close : Pos) (c : Context) (scope : Scope) (st : Stack) (around : Enclosing) (k : ℕ) → in_transaction around.holders ≡ true → (walk.Sits n fs ps num H J here X V S E F L Z O I T leaves gs) c scope st around → Resolves n k st (marks.of_action a) → AllIn IsFine (site.of_action n around k pos a) → ShapedAction X V S C a → (walk.Made n fs ps num H J here X V S E F L Z O I T) (action_copy copies a pos close c scope) → (part.Heard n fs ps num H J here X V S E F L Z O I T leaves gs C copies calls_are mute) (site.of_action n around k pos a) (action_copy copies a pos close c scope)
           action_heard tree.empty pos close c scope st around k i s r g x m = (part.nothing_heard n fs ps num H J here X V S E F L Z O I T leaves gs C copies calls_are mute) [] _ refl refl
           action_heard (tree.block ss) pos close c scope st around k i s r g x m =
               let r2 = resolves_both n k ([] ∷ st) (marks.of_statements ss) (Closes ∷ []) r in
@@ -250,11 +250,11 @@ module _ (n : NamedProgram) (fs : List Function) (ps : List PortUse) (num : Numb
           action_heard (tree.select cs) pos close c scope st around k i s r g x m = absurd (true≢false (sym i ∙ g.0))
           action_heard (tree.transaction is_master ss) pos close c scope st around k i s r g x m = absurd (true≢false (sym i ∙ g.0.1))
 
-          maybe_heard : (t : tree.Maybe) (c : Context) (scope : Scope) (st : Stack) (around : Around) (k : ℕ) → in_transaction around.holders ≡ true → (walk.Sits n fs ps num H J here X V S E F L Z O I T leaves gs) c scope st around → Resolves n k st (marks.of_maybe t) → AllIn IsFine (site.of_maybe n around k t) → ShapedMaybe X V S C t → (walk.Made n fs ps num H J here X V S E F L Z O I T) (maybe_copy copies t c scope) → (part.Heard n fs ps num H J here X V S E F L Z O I T leaves gs C copies calls_are mute) (site.of_maybe n around k t) (maybe_copy copies t c scope)
+          maybe_heard : (t : tree.Maybe) (c : Context) (scope : Scope) (st : Stack) (around : Enclosing) (k : ℕ) → in_transaction around.holders ≡ true → (walk.Sits n fs ps num H J here X V S E F L Z O I T leaves gs) c scope st around → Resolves n k st (marks.of_maybe t) → AllIn IsFine (site.of_maybe n around k t) → ShapedMaybe X V S C t → (walk.Made n fs ps num H J here X V S E F L Z O I T) (maybe_copy copies t c scope) → (part.Heard n fs ps num H J here X V S E F L Z O I T leaves gs C copies calls_are mute) (site.of_maybe n around k t) (maybe_copy copies t c scope)
           maybe_heard tree.absent c scope st around k i s r g x m = (part.nothing_heard n fs ps num H J here X V S E F L Z O I T leaves gs C copies calls_are mute) [] _ refl refl
           maybe_heard (tree.present t) c scope st around k i s r g x m = statement_heard t c scope st around k i s r g x m
 
-          statements_heard : (ss : tree.Statements) (c : Context) (scope : Scope) (st : Stack) (around : Around) (k : ℕ) → in_transaction around.holders ≡ true → (walk.Sits n fs ps num H J here X V S E F L Z O I T leaves gs) c scope st around → Resolves n k st (marks.of_statements ss) → AllIn IsFine (site.of_statements n around k ss) → ShapedStatements X V S C ss → (walk.Made n fs ps num H J here X V S E F L Z O I T) (statements_copy copies ss c scope) → (part.Heard n fs ps num H J here X V S E F L Z O I T leaves gs C copies calls_are mute) (site.of_statements n around k ss) (statements_copy copies ss c scope)
+          statements_heard : (ss : tree.Statements) (c : Context) (scope : Scope) (st : Stack) (around : Enclosing) (k : ℕ) → in_transaction around.holders ≡ true → (walk.Sits n fs ps num H J here X V S E F L Z O I T leaves gs) c scope st around → Resolves n k st (marks.of_statements ss) → AllIn IsFine (site.of_statements n around k ss) → ShapedStatements X V S C ss → (walk.Made n fs ps num H J here X V S E F L Z O I T) (statements_copy copies ss c scope) → (part.Heard n fs ps num H J here X V S E F L Z O I T leaves gs C copies calls_are mute) (site.of_statements n around k ss) (statements_copy copies ss c scope)
           statements_heard tree.no_more c scope st around k i s r g x m = (part.nothing_heard n fs ps num H J here X V S E F L Z O I T leaves gs C copies calls_are mute) [] _ refl refl
           statements_heard (tree.more t ss) c scope st around k i s r g x m =
               let ct = statement_copy copies t c scope in
@@ -268,11 +268,11 @@ module _ (n : NamedProgram) (fs : List Function) (ps : List PortUse) (num : Numb
               let v = statements_heard ss c ct.scope su around k1 i ((walk.with_names n fs ps num H J here X V S E F L Z O I T leaves gs) c scope ct.scope st su around around (λ t. t) w.scope s) r1.1 g1.1 x.1 m1.1 in
               (part.heard_both n fs ps num H J here X V S E F L Z O I T leaves gs C copies calls_are mute) (site.of_statement n around k t) (site.of_statements n around k1 ss) ct (statements_copy copies ss c ct.scope) h v
 
-          maybe_well : (t : tree.Maybe) (c : Context) (scope : Scope) (st : Stack) (around : Around) (k : ℕ) → (walk.Sits n fs ps num H J here X V S E F L Z O I T leaves gs) c scope st around → Resolves n k st (marks.of_maybe t) → AllIn IsFine (site.of_maybe n around k t) → ShapedMaybe X V S C t → (walk.Made n fs ps num H J here X V S E F L Z O I T) (maybe_copy copies t c scope) → (walk.Well n fs ps num H J here X V S E F L Z O I T) (after st (marks.of_maybe t)) (maybe_copy copies t c scope)
+          maybe_well : (t : tree.Maybe) (c : Context) (scope : Scope) (st : Stack) (around : Enclosing) (k : ℕ) → (walk.Sits n fs ps num H J here X V S E F L Z O I T leaves gs) c scope st around → Resolves n k st (marks.of_maybe t) → AllIn IsFine (site.of_maybe n around k t) → ShapedMaybe X V S C t → (walk.Made n fs ps num H J here X V S E F L Z O I T) (maybe_copy copies t c scope) → (walk.Well n fs ps num H J here X V S E F L Z O I T) (after st (marks.of_maybe t)) (maybe_copy copies t c scope)
           maybe_well tree.absent c scope st around k s r g x m = (walk.nothing_well n fs ps num H J here X V S E F L Z O I T leaves gs) c scope st around s
           maybe_well (tree.present t) c scope st around k s r g x m = statement_well t c scope st around k s r g x m
 
-          statements_well : (ss : tree.Statements) (c : Context) (scope : Scope) (st : Stack) (around : Around) (k : ℕ) → (walk.Sits n fs ps num H J here X V S E F L Z O I T leaves gs) c scope st around → Resolves n k st (marks.of_statements ss) → AllIn IsFine (site.of_statements n around k ss) → ShapedStatements X V S C ss → (walk.Made n fs ps num H J here X V S E F L Z O I T) (statements_copy copies ss c scope) → (walk.Well n fs ps num H J here X V S E F L Z O I T) (after st (marks.of_statements ss)) (statements_copy copies ss c scope)
+          statements_well : (ss : tree.Statements) (c : Context) (scope : Scope) (st : Stack) (around : Enclosing) (k : ℕ) → (walk.Sits n fs ps num H J here X V S E F L Z O I T leaves gs) c scope st around → Resolves n k st (marks.of_statements ss) → AllIn IsFine (site.of_statements n around k ss) → ShapedStatements X V S C ss → (walk.Made n fs ps num H J here X V S E F L Z O I T) (statements_copy copies ss c scope) → (walk.Well n fs ps num H J here X V S E F L Z O I T) (after st (marks.of_statements ss)) (statements_copy copies ss c scope)
           statements_well tree.no_more c scope st around k s r g x m = (walk.nothing_well n fs ps num H J here X V S E F L Z O I T leaves gs) c scope st around s
           statements_well (tree.more t ss) c scope st around k s r g x m =
               let ct = statement_copy copies t c scope in
@@ -286,7 +286,7 @@ module _ (n : NamedProgram) (fs : List Function) (ps : List PortUse) (num : Numb
               (walk.at_stack n fs ps num H J here X V S E F L Z O I T) _ _ (statements_copy copies (tree.more t ss) c scope) (sym (after_both st (marks.of_statement t) (marks.of_statements ss)))
               (record { code = both (walk.Good n fs ps num H J here X V S E F L Z O I T) ct.code (statements_copy copies ss c ct.scope).code w.code v.code; scope = v.scope })
 
-          branch_well : (b : tree.Branch) (c : Context) (scope : Scope) (st : Stack) (around : Around) (k : ℕ) → (walk.Sits n fs ps num H J here X V S E F L Z O I T leaves gs) c scope st around → Resolves n k st (marks.of_branch b) → AllIn IsFine (site.of_branch n around k b) → ShapedBranch X V S C b → (walk.Made n fs ps num H J here X V S E F L Z O I T) (branch_copy copies b c scope) → (walk.Well n fs ps num H J here X V S E F L Z O I T) (after st (marks.of_branch b)) (branch_copy copies b c scope)
+          branch_well : (b : tree.Branch) (c : Context) (scope : Scope) (st : Stack) (around : Enclosing) (k : ℕ) → (walk.Sits n fs ps num H J here X V S E F L Z O I T leaves gs) c scope st around → Resolves n k st (marks.of_branch b) → AllIn IsFine (site.of_branch n around k b) → ShapedBranch X V S C b → (walk.Made n fs ps num H J here X V S E F L Z O I T) (branch_copy copies b c scope) → (walk.Well n fs ps num H J here X V S E F L Z O I T) (after st (marks.of_branch b)) (branch_copy copies b c scope)
           branch_well (tree.branch place t) c scope st around k s r g x m =
               let mp = marks.optional marks.of_place place in
               let q = quiet_optional marks.of_place quiet_place place in
@@ -295,7 +295,7 @@ module _ (n : NamedProgram) (fs : List Function) (ps : List PortUse) (num : Numb
               (walk.at_stack n fs ps num H J here X V S E F L Z O I T) _ _ (branch_copy copies (tree.branch place t) c scope) (sym (quiet_skip st mp (marks.of_statement t) q))
               (statement_well t c scope st (inside a_branch around) (past k mp) ((walk.with_names n fs ps num H J here X V S E F L Z O I T leaves gs) c scope scope st st around (inside a_branch around) ((walk.inner_needs n fs ps num H J here X V S E F L Z O I T leaves gs) a_branch around) s.known s) r1.1 g1.1 x m)
 
-          branches_well : (bs : tree.Branches) (index : ℕ) (c : Context) (scope : Scope) (st : Stack) (around : Around) (k : ℕ) → (walk.Sits n fs ps num H J here X V S E F L Z O I T leaves gs) c scope st around → Resolves n k st (marks.of_branches bs) → AllIn IsFine (site.of_branches n around k bs) → ShapedBranches X V S C bs → (walk.Made n fs ps num H J here X V S E F L Z O I T) (branches_copy copies bs index c scope).made → (part.BranchesWell n fs ps num H J here X V S E F L Z O I T leaves gs C copies calls_are mute) (after st (marks.of_branches bs)) (branches_copy copies bs index c scope).made.scope (branches_copy copies bs index c scope).branches
+          branches_well : (bs : tree.Branches) (index : ℕ) (c : Context) (scope : Scope) (st : Stack) (around : Enclosing) (k : ℕ) → (walk.Sits n fs ps num H J here X V S E F L Z O I T leaves gs) c scope st around → Resolves n k st (marks.of_branches bs) → AllIn IsFine (site.of_branches n around k bs) → ShapedBranches X V S C bs → (walk.Made n fs ps num H J here X V S E F L Z O I T) (branches_copy copies bs index c scope).made → (part.BranchesWell n fs ps num H J here X V S E F L Z O I T leaves gs C copies calls_are mute) (after st (marks.of_branches bs)) (branches_copy copies bs index c scope).made.scope (branches_copy copies bs index c scope).branches
           branches_well tree.no_branch index c scope st around k s r g x m = record { code = tt; known = s.known }
           branches_well (tree.more_branches b bs) index c scope st around k s r g x m =
               let cb = branch_copy copies b (in_branch c index) scope in
@@ -309,7 +309,7 @@ module _ (n : NamedProgram) (fs : List Function) (ps : List PortUse) (num : Numb
               let e = after_both st (marks.of_branch b) (marks.of_branches bs) in
               record { code = ((walk.as_statements n fs ps num H J here X V S E F L Z O I T) cb.code w.code, v.code); known = subst (λ (z : Stack). (walk.Known n fs ps num H J here) z (branches_copy copies (tree.more_branches b bs) index c scope).made.scope) (sym e) v.known }
 
-          cases_well : (cs : tree.Cases) (c : Context) (scope : Scope) (st : Stack) (around : Around) (k : ℕ) → (walk.Sits n fs ps num H J here X V S E F L Z O I T leaves gs) c scope st around → Resolves n k st (marks.of_cases cs) → AllIn IsFine (site.of_cases n around k cs) → ShapedCases X V S C cs → (walk.Made n fs ps num H J here X V S E F L Z O I T) (cases_copy copies cs c scope).made → EachCase E L Z O I T (cases_copy copies cs c scope).cases × EachDefault E L Z O I T (cases_copy copies cs c scope).otherwise
+          cases_well : (cs : tree.Cases) (c : Context) (scope : Scope) (st : Stack) (around : Enclosing) (k : ℕ) → (walk.Sits n fs ps num H J here X V S E F L Z O I T leaves gs) c scope st around → Resolves n k st (marks.of_cases cs) → AllIn IsFine (site.of_cases n around k cs) → ShapedCases X V S C cs → (walk.Made n fs ps num H J here X V S E F L Z O I T) (cases_copy copies cs c scope).made → EachCase E L Z O I T (cases_copy copies cs c scope).cases × EachDefault E L Z O I T (cases_copy copies cs c scope).otherwise
           cases_well tree.no_case c scope st around k s r g x m = (tt, tt)
           cases_well (tree.more_cases (tree.case pos guard None ss) cs) c scope st around k s r g x m =
               let mg = marks.optional marks.of_expression guard in
@@ -377,7 +377,7 @@ module _ (n : NamedProgram) (fs : List Function) (ps : List PortUse) (num : Numb
             let h = (walk.own_variable n fs ps num H J here) c.core path false 1 on m.variables.0 in
             (((walk.zero_at_path n fs ps num H J here X V S E F L Z O I T leaves gs) c e path false 1 h, tt), λ t. h)
 
-        pub function_well : (c : Context) (scope : Scope) (st : Stack) (around : Around) (k : ℕ) (own : Path) (f : Function) (args : List tree.Argument) → (walk.FunctionRight n fs ps num H J here X V S E F L Z O I T) gs f → ShapedStatement X V S C f.body → (walk.Sits n fs ps num H J here X V S E F L Z O I T leaves gs) c scope st around →
+        pub function_well : (c : Context) (scope : Scope) (st : Stack) (around : Enclosing) (k : ℕ) (own : Path) (f : Function) (args : List tree.Argument) → (walk.FunctionRight n fs ps num H J here X V S E F L Z O I T) gs f → ShapedStatement X V S C f.body → (walk.Sits n fs ps num H J here X V S E F L Z O I T leaves gs) c scope st around →
             Resolves n k st (marks.each marks.of_argument args) → AllIn IsFine (site.of_arguments n k f.head.params args) → ShapedArguments X V S C args → length args ≡ length f.head.params → AllFit (arguments n k f.head.params args) →
             (walk.Made n fs ps num H J here X V S E F L Z O I T) (function_copy (statement_copy copies) c scope own f args) → (walk.CallWell n fs ps num H J here X V S E F L Z O I T leaves gs) st own f (function_copy (statement_copy copies) c scope own f args)
         function_well c scope st around k own f args fr shaped s r g x long fit m =

@@ -10,7 +10,7 @@ use Rattle.xc_tree.specs.declared.tree.ParamKind.{ParamKind}
 use Rattle.xc_tree.specs.declared.tree.ParamKind.TheVariants.{Value, Ref, Array, End, Port}
 use Rattle.xc_tree.specs.Names.Marks as marks
 use Rattle.xc_tree.specs.Plain as tree
-use Rattle.xc_tree.specs.Shapes.Around.{Around, a_block, a_branch, a_case, a_loop, a_transaction, an_if, in_block_of, inside}
+use Rattle.xc_tree.specs.Shapes.Enclosing.{Enclosing, a_block, a_branch, a_case, a_loop, a_transaction, an_if, in_block_of, inside}
 use Rattle.xc_tree.specs.Symbols.{equals}
 use Rattle.xc_tree.specs.Types.Named.{NamedProgram, past}
 use Rattle.xc_tree.specs.Types.Rules.{broken_unless, longest_array, rule_409}
@@ -126,7 +126,7 @@ and_case_has c scope pos guard (Some i) body others h g =
 module _ (n : NamedProgram) where
   -- what stands in a function's block has long arrays
   pub record BodyIsLong (f : Function) : Type 0 where
-    pub around : Around
+    pub around : Enclosing
     pub names : ℕ
     pub long : AllIn IsLong (site.of_body n around names f.body)
 
@@ -156,7 +156,7 @@ module _ (n : NamedProgram) where
       right_has c scope (tree.result call) k =
           by_has c scope call.called.pos call.arguments (called c call) k (subst (λ gs. SomeBodyIsLong (function_named gs call.called.text)) (sym k) (named_long fs call.called.text all))
 
-      kind_has : (c : Context) (scope : Scope) (name : List ℕ) (pos : Pos) (kind : tree.Kind) (around : Around) (k : ℕ) → c.functions ≡ fs → AllIn IsLong (site.of_kind n around k kind) → Have (kind_copy copies c scope name pos kind)
+      kind_has : (c : Context) (scope : Scope) (name : List ℕ) (pos : Pos) (kind : tree.Kind) (around : Enclosing) (k : ℕ) → c.functions ≡ fs → AllIn IsLong (site.of_kind n around k kind) → Have (kind_copy copies c scope name pos kind)
       kind_has c scope name pos (tree.word u None) around k e h = (one_word, tt)
       kind_has c scope name pos (tree.word u (Some r)) around k e h =
           let inner = with_name scope name (a_word (path_at c.path pos) u) in
@@ -165,7 +165,7 @@ module _ (n : NamedProgram) where
       kind_has c scope name pos (tree.channel streaming) around k e h = tt
       kind_has c scope name pos tree.timer around k e h = tt
 
-      declarations_have : (c : Context) (ds : List tree.Declaration) (scope : Scope) (around : Around) (k : ℕ) → c.functions ≡ fs → AllIn IsLong (site.of_declarations n around k ds) → Have (declarations_copy copies c ds scope)
+      declarations_have : (c : Context) (ds : List tree.Declaration) (scope : Scope) (around : Enclosing) (k : ℕ) → c.functions ≡ fs → AllIn IsLong (site.of_declarations n around k ds) → Have (declarations_copy copies c ds scope)
       declarations_have c [] scope around k e h = tt
       declarations_have c (d ∷ ds) scope around k e h =
           let first = declaration_copy copies c scope d in
@@ -181,10 +181,10 @@ module _ (n : NamedProgram) where
       return_has c scope (Some r) e = both HasWord (right_copy copies c scope r).variables [] (right_has c scope r e) tt
 
       mutual
-        statement_has : (s : tree.Statement) (c : Context) (scope : Scope) (around : Around) (k : ℕ) → c.functions ≡ fs → AllIn IsLong (site.of_statement n around k s) → Have (statement_copy copies s c scope)
+        statement_has : (s : tree.Statement) (c : Context) (scope : Scope) (around : Enclosing) (k : ℕ) → c.functions ≡ fs → AllIn IsLong (site.of_statement n around k s) → Have (statement_copy copies s c scope)
         statement_has (tree.statement action pos close own) c scope around k e h = action_has action pos close c scope around k e h
 
-        action_has : (a : tree.Action) (pos close : Pos) (c : Context) (scope : Scope) (around : Around) (k : ℕ) → c.functions ≡ fs → AllIn IsLong (site.of_action n around k pos a) → Have (action_copy copies a pos close c scope)
+        action_has : (a : tree.Action) (pos close : Pos) (c : Context) (scope : Scope) (around : Enclosing) (k : ℕ) → c.functions ≡ fs → AllIn IsLong (site.of_action n around k pos a) → Have (action_copy copies a pos close c scope)
         action_has tree.empty pos close c scope around k e h = tt
         action_has (tree.block ss) pos close c scope around k e h = statements_have ss c scope (inside a_block around) k e h
         action_has (tree.declare ds) pos close c scope around k e h = declarations_have c ds scope around k e h
@@ -226,11 +226,11 @@ module _ (n : NamedProgram) where
         action_has (tree.select cs) pos close c scope around k e h = cases_have cs c scope around k e h.1
         action_has (tree.transaction is_master ss) pos close c scope around k e h = statements_have ss c scope (inside a_transaction around) k e h.1
 
-        maybe_has : (m : tree.Maybe) (c : Context) (scope : Scope) (around : Around) (k : ℕ) → c.functions ≡ fs → AllIn IsLong (site.of_maybe n around k m) → Have (maybe_copy copies m c scope)
+        maybe_has : (m : tree.Maybe) (c : Context) (scope : Scope) (around : Enclosing) (k : ℕ) → c.functions ≡ fs → AllIn IsLong (site.of_maybe n around k m) → Have (maybe_copy copies m c scope)
         maybe_has tree.absent c scope around k e h = tt
         maybe_has (tree.present s) c scope around k e h = statement_has s c scope around k e h
 
-        statements_have : (ss : tree.Statements) (c : Context) (scope : Scope) (around : Around) (k : ℕ) → c.functions ≡ fs → AllIn IsLong (site.of_statements n around k ss) → Have (statements_copy copies ss c scope)
+        statements_have : (ss : tree.Statements) (c : Context) (scope : Scope) (around : Enclosing) (k : ℕ) → c.functions ≡ fs → AllIn IsLong (site.of_statements n around k ss) → Have (statements_copy copies ss c scope)
         statements_have tree.no_more c scope around k e h = tt
         statements_have (tree.more s ss) c scope around k e h =
             let first = statement_copy copies s c scope in
@@ -238,13 +238,13 @@ module _ (n : NamedProgram) where
             let g = split IsLong (site.of_statement n around k s) (site.of_statements n around k1 ss) h in
             joined_have first (statements_copy copies ss c first.scope) (statement_has s c scope around k e g.0) (statements_have ss c first.scope around k1 e g.1)
 
-        branch_has : (b : tree.Branch) (c : Context) (scope : Scope) (around : Around) (k : ℕ) → c.functions ≡ fs → AllIn IsLong (site.of_branch n around k b) → Have (branch_copy copies b c scope)
+        branch_has : (b : tree.Branch) (c : Context) (scope : Scope) (around : Enclosing) (k : ℕ) → c.functions ≡ fs → AllIn IsLong (site.of_branch n around k b) → Have (branch_copy copies b c scope)
         branch_has (tree.branch place s) c scope around k e h =
             let k1 = past k (marks.optional marks.of_place place) in
             let g = split IsLong (site.optional (site.of_branch_place n around k) place) (site.of_statement n (inside a_branch around) k1 s) h in
             statement_has s c scope (inside a_branch around) k1 e g.1
 
-        branches_have : (bs : tree.Branches) (index : ℕ) (c : Context) (scope : Scope) (around : Around) (k : ℕ) → c.functions ≡ fs → AllIn IsLong (site.of_branches n around k bs) → Have (branches_copy copies bs index c scope).made
+        branches_have : (bs : tree.Branches) (index : ℕ) (c : Context) (scope : Scope) (around : Enclosing) (k : ℕ) → c.functions ≡ fs → AllIn IsLong (site.of_branches n around k bs) → Have (branches_copy copies bs index c scope).made
         branches_have tree.no_branch index c scope around k e h = tt
         branches_have (tree.more_branches b bs) index c scope around k e h =
             let first = branch_copy copies b (in_branch c index) scope in
@@ -252,14 +252,14 @@ module _ (n : NamedProgram) where
             let g = split IsLong (site.of_branch n around k b) (site.of_branches n around k1 bs) h in
             joined_have first (branches_copy copies bs (index + 1) c first.scope).made (branch_has b (in_branch c index) scope around k e g.0) (branches_have bs (index + 1) c first.scope around k1 e g.1)
 
-        cases_have : (cs : tree.Cases) (c : Context) (scope : Scope) (around : Around) (k : ℕ) → c.functions ≡ fs → AllIn IsLong (site.of_cases n around k cs) → Have (cases_copy copies cs c scope).made
+        cases_have : (cs : tree.Cases) (c : Context) (scope : Scope) (around : Enclosing) (k : ℕ) → c.functions ≡ fs → AllIn IsLong (site.of_cases n around k cs) → Have (cases_copy copies cs c scope).made
         cases_have tree.no_case c scope around k e h = tt
         cases_have (tree.more_cases a cs) c scope around k e h =
             let k1 = past k (marks.of_case a) in
             let g = split IsLong (site.of_case n around k a) (site.of_cases n around k1 cs) h in
             case_has a c scope (cases_copy copies cs c scope) around k e g.0 (cases_have cs c scope around k1 e g.1)
 
-        case_has : (a : tree.Case) (c : Context) (scope : Scope) (others : Cased) (around : Around) (k : ℕ) → c.functions ≡ fs → AllIn IsLong (site.of_case n around k a) → Have others.made → Have (case_copy copies a c scope others).made
+        case_has : (a : tree.Case) (c : Context) (scope : Scope) (others : Cased) (around : Enclosing) (k : ℕ) → c.functions ≡ fs → AllIn IsLong (site.of_case n around k a) → Have others.made → Have (case_copy copies a c scope others).made
         case_has (tree.case pos guard i ss) c scope others around k e h g =
             let k1 = past k (marks.optional marks.of_expression guard) in
             let k2 = past k1 (marks.optional marks.of_input i) in
@@ -268,7 +268,7 @@ module _ (n : NamedProgram) where
             and_case_has c scope pos guard i (statements_copy copies ss (in_case c pos) (case_scope c scope i)) others (statements_have ss (in_case c pos) (case_scope c scope i) (inside a_case around) k2 e s2.1) g
 
       -- a function's block
-      body_has : (s : tree.Statement) (c : Context) (scope : Scope) (around : Around) (k : ℕ) → c.functions ≡ fs → AllIn IsLong (site.of_body n around k s) → Have (statement_copy copies s c scope)
+      body_has : (s : tree.Statement) (c : Context) (scope : Scope) (around : Enclosing) (k : ℕ) → c.functions ≡ fs → AllIn IsLong (site.of_body n around k s) → Have (statement_copy copies s c scope)
       body_has (tree.statement (tree.block ss) pos close own) c scope around k e h = statements_have ss c scope around k e h
       body_has (tree.statement tree.empty pos close own) c scope around k e h = action_has tree.empty pos close c scope around k e h
       body_has (tree.statement (tree.declare ds) pos close own) c scope around k e h = action_has (tree.declare ds) pos close c scope around k e h
@@ -299,13 +299,13 @@ module _ (n : NamedProgram) where
 
       -- The roots.
 
-      root_has : (main : Pos) (b : tree.Branch) (c : Context) (scope : Scope) (around : Around) (k : ℕ) → c.functions ≡ fs → AllIn IsLong (site.of_branch n around k b) → Have (branch_root copies main b c scope).made
+      root_has : (main : Pos) (b : tree.Branch) (c : Context) (scope : Scope) (around : Enclosing) (k : ℕ) → c.functions ≡ fs → AllIn IsLong (site.of_branch n around k b) → Have (branch_root copies main b c scope).made
       root_has main (tree.branch place s) c scope around k e h =
           let k1 = past k (marks.optional marks.of_place place) in
           let g = split IsLong (site.optional (site.of_branch_place n around k) place) (site.of_statement n (inside a_branch around) k1 s) h in
           statement_has s (record c { core = core_of scope place }) scope (inside a_branch around) k1 e g.1
 
-      roots_have : (main : Pos) (bs : tree.Branches) (index : ℕ) (c : Context) (scope : Scope) (around : Around) (k : ℕ) → c.functions ≡ fs → AllIn IsLong (site.of_branches n around k bs) → Have (branch_roots copies main bs index c scope).made
+      roots_have : (main : Pos) (bs : tree.Branches) (index : ℕ) (c : Context) (scope : Scope) (around : Enclosing) (k : ℕ) → c.functions ≡ fs → AllIn IsLong (site.of_branches n around k bs) → Have (branch_roots copies main bs index c scope).made
       roots_have main tree.no_branch index c scope around k e h = tt
       roots_have main (tree.more_branches b bs) index c scope around k e h =
           let first = (branch_root copies main b (in_branch c index) scope).made in
@@ -313,14 +313,14 @@ module _ (n : NamedProgram) where
           let g = split IsLong (site.of_branch n around k b) (site.of_branches n around k1 bs) h in
           joined_have first (branch_roots copies main bs (index + 1) c first.scope).made (root_has main b (in_branch c index) scope around k e g.0) (roots_have main bs (index + 1) c first.scope around k1 e g.1)
 
-      numbered_have : (main : Pos) (b : tree.Branch) (name : List ℕ) (c : Context) (scope : Scope) (count index number : ℕ) (around : Around) (k : ℕ) → c.functions ≡ fs → AllIn IsLong (site.of_branch n around k b) → Have (numbered_roots copies main b name c scope count index number).made
+      numbered_have : (main : Pos) (b : tree.Branch) (name : List ℕ) (c : Context) (scope : Scope) (count index number : ℕ) (around : Enclosing) (k : ℕ) → c.functions ≡ fs → AllIn IsLong (site.of_branch n around k b) → Have (numbered_roots copies main b name c scope count index number).made
       numbered_have main b name c scope zero index number around k e h = tt
       numbered_have main b name c scope (suc count) index number around k e h =
           let inner = with_name scope name (a_constant number) in
           joined_have (branch_root copies main b (in_branch c index) inner).made (numbered_roots copies main b name c scope count (index + 1) (number + 1)).made
           (root_has main b (in_branch c index) inner around k e h) (numbered_have main b name c scope count (index + 1) (number + 1) around k e h)
 
-      action_roots_have : (main : Pos) (a : tree.Action) (pos : Pos) (c : Context) (scope : Scope) (around : Around) (k : ℕ) → c.functions ≡ fs → AllIn IsLong (site.of_action n around k pos a) → Have (action_roots copies main a c scope).made
+      action_roots_have : (main : Pos) (a : tree.Action) (pos : Pos) (c : Context) (scope : Scope) (around : Enclosing) (k : ℕ) → c.functions ≡ fs → AllIn IsLong (site.of_action n around k pos a) → Have (action_roots copies main a c scope).made
       action_roots_have main (tree.declare ds) pos c scope around k e h = declarations_have c ds scope around k e h
       action_roots_have main (tree.par bs) pos c scope around k e h = roots_have main bs 0 c scope around k e h.1
       action_roots_have main (tree.replicated first second third from until b) pos c scope around k e h = numbered_have main b first.text c scope (until - from) 0 from around (k + 3) e h.1.1
@@ -341,7 +341,7 @@ module _ (n : NamedProgram) where
       action_roots_have main (tree.select cs) pos c scope around k e h = tt
       action_roots_have main (tree.transaction is_master ss) pos c scope around k e h = tt
 
-      block_has : (main : Pos) (ss : tree.Statements) (c : Context) (scope : Scope) (around : Around) (k : ℕ) → c.functions ≡ fs → AllIn IsLong (site.of_statements n around k ss) → Have (block_roots copies main ss c scope).made
+      block_has : (main : Pos) (ss : tree.Statements) (c : Context) (scope : Scope) (around : Enclosing) (k : ℕ) → c.functions ≡ fs → AllIn IsLong (site.of_statements n around k ss) → Have (block_roots copies main ss c scope).made
       block_has main tree.no_more c scope around k e h = tt
       block_has main (tree.more (tree.statement action pos close own) ss) c scope around k e h =
           let first = (action_roots copies main action c scope).made in
@@ -349,7 +349,7 @@ module _ (n : NamedProgram) where
           let g = split IsLong (site.of_action n around k pos action) (site.of_statements n around k1 ss) h in
           joined_have first (block_roots copies main ss c first.scope).made (action_roots_have main action pos c scope around k e g.0) (block_has main ss c first.scope around k1 e g.1)
 
-      in_body_has : (main : Pos) (s : tree.Statement) (c : Context) (scope : Scope) (around : Around) (k : ℕ) → c.functions ≡ fs → AllIn IsLong (site.of_body n around k s) → Have (block_roots copies main (in_block s) c scope).made
+      in_body_has : (main : Pos) (s : tree.Statement) (c : Context) (scope : Scope) (around : Enclosing) (k : ℕ) → c.functions ≡ fs → AllIn IsLong (site.of_body n around k s) → Have (block_roots copies main (in_block s) c scope).made
       in_body_has main (tree.statement (tree.block ss) pos close own) c scope around k e h = block_has main ss c scope around k e h
       in_body_has main (tree.statement tree.empty pos close own) c scope around k e h = tt
       in_body_has main (tree.statement (tree.declare ds) pos close own) c scope around k e h = tt

@@ -15,12 +15,12 @@ use Rattle.xc_size.proofs.measure.+statement.Goals as goal
 
 pub statements-loop-s-preserved : goal.statements-loop-s-preserved
 statements-loop-s-preserved t c =
-    gathered_more _ _ _ c.loop-s.size c.statement.result c.beside-size.result _ _ _ _ _ _ _ _ _
+    gathered_more _ _ _ c.loop-s.size c.statement.result c.parallel-size.result _ _ _ _ _ _ _ _ _
     (counts_of_statements (statements_called c.args.sizes.now) c.args.ss.now c.loop-s.s-index c.s-item.result c.s-item.is c.loop-s-test.true)
     (nodes_of_statements (nodes_called c.args.sizes.now) c.args.ss.now c.loop-s.s-index c.s-item.result c.s-item.is c.loop-s-test.true)
     (depths_of_statements (depth_called c.args.sizes.now) c.args.ss.now c.loop-s.s-index c.s-item.result c.s-item.is c.loop-s-test.true)
     c.statement.ensures.statements c.statement.ensures.nodes c.statement.ensures.depth
-    c.beside-size.ensures.statements c.beside-size.ensures.nodes c.beside-size.ensures.depth
+    c.parallel-size.ensures.statements c.parallel-size.ensures.nodes c.parallel-size.ensures.depth
     c.loop-s.invariant
 
 pub statements-returns-clause-statements : goal.statements-returns-clause-statements
@@ -34,12 +34,12 @@ statements-returns-clause-depth t c = highest_all _ _ _ _ (depths_of_statements_
 
 pub branches-loop-b-preserved : goal.branches-loop-b-preserved
 branches-loop-b-preserved t c =
-    gathered_more _ _ _ c.loop-b.size c.branch-sizes.result c.beside-size.result _ _ _ _ _ _ _ _ _
+    gathered_more _ _ _ c.loop-b.size c.branch-sizes.result c.parallel-size.result _ _ _ _ _ _ _ _ _
     (counts_of_branches (statements_called c.args.sizes.now) c.args.bs.now c.loop-b.b-index c.b-item.result c.b-item.is c.loop-b-test.true)
     (nodes_of_branches (nodes_called c.args.sizes.now) c.args.bs.now c.loop-b.b-index c.b-item.result c.b-item.is c.loop-b-test.true)
     (depths_of_branches (depth_called c.args.sizes.now) c.args.bs.now c.loop-b.b-index c.b-item.result c.b-item.is c.loop-b-test.true)
     c.branch-sizes.ensures.statements c.branch-sizes.ensures.nodes c.branch-sizes.ensures.depth
-    c.beside-size.ensures.statements c.beside-size.ensures.nodes c.beside-size.ensures.depth
+    c.parallel-size.ensures.statements c.parallel-size.ensures.nodes c.parallel-size.ensures.depth
     c.loop-b.invariant
 
 pub branches-returns-clause-statements : goal.branches-returns-clause-statements
@@ -53,12 +53,12 @@ branches-returns-clause-depth t c = highest_all _ _ _ _ (depths_of_branches_done
 
 pub cases-loop-c-preserved : goal.cases-loop-c-preserved
 cases-loop-c-preserved t c =
-    gathered_more _ _ _ c.loop-c.size c.case.result c.beside-size.result _ _ _ _ _ _ _ _ _
+    gathered_more _ _ _ c.loop-c.size c.case.result c.parallel-size.result _ _ _ _ _ _ _ _ _
     (counts_of_cases (statements_called c.args.sizes.now) c.args.cs.now c.loop-c.c-index c.c-item.result c.c-item.is c.loop-c-test.true)
     (nodes_of_cases (nodes_called c.args.sizes.now) c.args.cs.now c.loop-c.c-index c.c-item.result c.c-item.is c.loop-c-test.true)
     (depths_of_cases (depth_called c.args.sizes.now) c.args.cs.now c.loop-c.c-index c.c-item.result c.c-item.is c.loop-c-test.true)
     c.case.ensures.statements c.case.ensures.nodes c.case.ensures.depth
-    c.beside-size.ensures.statements c.beside-size.ensures.nodes c.beside-size.ensures.depth
+    c.parallel-size.ensures.statements c.parallel-size.ensures.nodes c.parallel-size.ensures.depth
     c.loop-c.invariant
 
 pub cases-returns-clause-statements : goal.cases-returns-clause-statements
@@ -71,22 +71,22 @@ pub cases-returns-clause-depth : goal.cases-returns-clause-depth
 cases-returns-clause-depth t c = highest_all _ _ _ _ (depths_of_cases_done (depth_called c.args.sizes.now) c.args.cs.now c.loop-c.c-index c.loop-c-test.false) c.loop-c.invariant.depth
 
 pub action-returns-in-If-clause-statements : goal.action-returns-in-If-clause-statements
-action-returns-in-If-clause-statements t c = rw (c.in-If.is, action-If c.in-If.test c.in-If.then c.in-If.otherwise) (one_more _ _ _ _ _ (sum_of_three _ 0 _ _ _ _ _ _ _ c.expression-in-If.ensures.statements c.statement.ensures.statements c.statement_if_any.ensures.statements c.beside-bodies.ensures.statements c.beside-in-If.ensures.statements) c.counted-in-If.ensures.statements (omega arith))
+action-returns-in-If-clause-statements t c = rw (c.in-If.is, action-If c.in-If.test c.in-If.then c.in-If.otherwise) (one_more _ _ _ _ _ (sum_of_three _ 0 _ _ _ _ _ _ _ c.expression-in-If.ensures.statements c.statement.ensures.statements c.statement_if_any.ensures.statements c.parallel-bodies.ensures.statements c.parallel-in-If.ensures.statements) c.counted-in-If.ensures.statements (omega arith))
 
 pub action-returns-in-If-clause-nodes : goal.action-returns-in-If-clause-nodes
-action-returns-in-If-clause-nodes t c = rw (c.in-If.is, action-If c.in-If.test c.in-If.then c.in-If.otherwise) (c.counted-in-If.ensures.nodes ∙ sum_of_three _ _ _ _ _ _ _ _ _ c.expression-in-If.ensures.nodes c.statement.ensures.nodes c.statement_if_any.ensures.nodes c.beside-bodies.ensures.nodes c.beside-in-If.ensures.nodes)
+action-returns-in-If-clause-nodes t c = rw (c.in-If.is, action-If c.in-If.test c.in-If.then c.in-If.otherwise) (c.counted-in-If.ensures.nodes ∙ sum_of_three _ _ _ _ _ _ _ _ _ c.expression-in-If.ensures.nodes c.statement.ensures.nodes c.statement_if_any.ensures.nodes c.parallel-bodies.ensures.nodes c.parallel-in-If.ensures.nodes)
 
 pub action-returns-in-If-clause-depth : goal.action-returns-in-If-clause-depth
-action-returns-in-If-clause-depth t c = rw (c.in-If.is, action-If c.in-If.test c.in-If.then c.in-If.otherwise) (c.counted-in-If.ensures.depth ∙ greatest_of_three _ _ _ _ _ _ _ _ _ c.expression-in-If.ensures.depth c.statement.ensures.depth c.statement_if_any.ensures.depth c.beside-bodies.ensures.depth c.beside-in-If.ensures.depth)
+action-returns-in-If-clause-depth t c = rw (c.in-If.is, action-If c.in-If.test c.in-If.then c.in-If.otherwise) (c.counted-in-If.ensures.depth ∙ greatest_of_three _ _ _ _ _ _ _ _ _ c.expression-in-If.ensures.depth c.statement.ensures.depth c.statement_if_any.ensures.depth c.parallel-bodies.ensures.depth c.parallel-in-If.ensures.depth)
 
 pub action-returns-in-For-clause-statements : goal.action-returns-in-For-clause-statements
-action-returns-in-For-clause-statements t c = rw (c.in-For.is, action-For c.in-For.first c.in-For.test c.in-For.step c.in-For.body) (one_more _ _ _ _ _ (sum_of_four _ _ 0 _ _ _ _ _ _ _ _ c.statement_if_any-in-For-2.ensures.statements c.expression_if_any.ensures.statements c.statement_if_any-in-For.ensures.statements c.statement-in-For.ensures.statements c.beside-turn.ensures.statements c.beside-turns.ensures.statements _ c.beside-in-For.ensures.statements) c.counted-in-For.ensures.statements (omega arith))
+action-returns-in-For-clause-statements t c = rw (c.in-For.is, action-For c.in-For.first c.in-For.test c.in-For.step c.in-For.body) (one_more _ _ _ _ _ (sum_of_four _ _ 0 _ _ _ _ _ _ _ _ c.statement_if_any-in-For-2.ensures.statements c.expression_if_any.ensures.statements c.statement_if_any-in-For.ensures.statements c.statement-in-For.ensures.statements c.parallel-turn.ensures.statements c.parallel-turns.ensures.statements _ c.parallel-in-For.ensures.statements) c.counted-in-For.ensures.statements (omega arith))
 
 pub action-returns-in-For-clause-nodes : goal.action-returns-in-For-clause-nodes
-action-returns-in-For-clause-nodes t c = rw (c.in-For.is, action-For c.in-For.first c.in-For.test c.in-For.step c.in-For.body) (c.counted-in-For.ensures.nodes ∙ sum_of_four _ _ _ _ _ _ _ _ _ _ _ c.statement_if_any-in-For-2.ensures.nodes c.expression_if_any.ensures.nodes c.statement_if_any-in-For.ensures.nodes c.statement-in-For.ensures.nodes c.beside-turn.ensures.nodes c.beside-turns.ensures.nodes _ c.beside-in-For.ensures.nodes)
+action-returns-in-For-clause-nodes t c = rw (c.in-For.is, action-For c.in-For.first c.in-For.test c.in-For.step c.in-For.body) (c.counted-in-For.ensures.nodes ∙ sum_of_four _ _ _ _ _ _ _ _ _ _ _ c.statement_if_any-in-For-2.ensures.nodes c.expression_if_any.ensures.nodes c.statement_if_any-in-For.ensures.nodes c.statement-in-For.ensures.nodes c.parallel-turn.ensures.nodes c.parallel-turns.ensures.nodes _ c.parallel-in-For.ensures.nodes)
 
 pub action-returns-in-For-clause-depth : goal.action-returns-in-For-clause-depth
-action-returns-in-For-clause-depth t c = rw (c.in-For.is, action-For c.in-For.first c.in-For.test c.in-For.step c.in-For.body) (c.counted-in-For.ensures.depth ∙ greatest_of_four _ _ _ _ _ _ _ _ _ _ _ c.statement_if_any-in-For-2.ensures.depth c.expression_if_any.ensures.depth c.statement_if_any-in-For.ensures.depth c.statement-in-For.ensures.depth c.beside-turn.ensures.depth c.beside-turns.ensures.depth _ c.beside-in-For.ensures.depth)
+action-returns-in-For-clause-depth t c = rw (c.in-For.is, action-For c.in-For.first c.in-For.test c.in-For.step c.in-For.body) (c.counted-in-For.ensures.depth ∙ greatest_of_four _ _ _ _ _ _ _ _ _ _ _ c.statement_if_any-in-For-2.ensures.depth c.expression_if_any.ensures.depth c.statement_if_any-in-For.ensures.depth c.statement-in-For.ensures.depth c.parallel-turn.ensures.depth c.parallel-turns.ensures.depth _ c.parallel-in-For.ensures.depth)
 
 pub action-returns-in-Repl-clause-statements : goal.action-returns-in-Repl-clause-statements
 action-returns-in-Repl-clause-statements t c = rw (c.in-Repl.is, action-Repl c.in-Repl.first c.in-Repl.second c.in-Repl.third c.in-Repl.from c.in-Repl.to c.in-Repl.body, ← c.deref.ensures, ← c.saturating_sub-copies.ensures) (one_more _ _ _ _ _ (copies_of _ c.saturating_sub-copies.result _ _ _ c.branch-sizes.ensures.statements c.times.ensures.statements) c.counted-in-Repl.ensures.statements refl)
@@ -122,13 +122,13 @@ pub action-returns-in-Decl-clause-depth : goal.action-returns-in-Decl-clause-dep
 action-returns-in-Decl-clause-depth t c = rw (c.in-Decl.is, action-Decl c.in-Decl.ds, ← c.as_slice-in-Decl.ensures) (c.declarations.ensures.depth)
 
 pub action-returns-in-Assign-clause-statements : goal.action-returns-in-Assign-clause-statements
-action-returns-in-Assign-clause-statements t c = rw (c.in-Assign.is, action-Assign c.in-Assign.lval c.in-Assign.field-1 c.in-Assign.field-2 c.in-Assign.rhs) (one_more _ _ _ _ _ (behind_none _ _ _ _ _ c.expression.ensures.statements c.right_side.ensures.statements c.beside.ensures.statements) c.counted.ensures.statements refl)
+action-returns-in-Assign-clause-statements t c = rw (c.in-Assign.is, action-Assign c.in-Assign.lval c.in-Assign.field-1 c.in-Assign.field-2 c.in-Assign.rhs) (one_more _ _ _ _ _ (behind_none _ _ _ _ _ c.expression.ensures.statements c.right_side.ensures.statements c.parallel.ensures.statements) c.counted.ensures.statements refl)
 
 pub action-returns-in-Assign-clause-nodes : goal.action-returns-in-Assign-clause-nodes
-action-returns-in-Assign-clause-nodes t c = rw (c.in-Assign.is, action-Assign c.in-Assign.lval c.in-Assign.field-1 c.in-Assign.field-2 c.in-Assign.rhs) (c.counted.ensures.nodes ∙ sum_of_two _ _ _ _ _ _ c.expression.ensures.nodes c.right_side.ensures.nodes c.beside.ensures.nodes)
+action-returns-in-Assign-clause-nodes t c = rw (c.in-Assign.is, action-Assign c.in-Assign.lval c.in-Assign.field-1 c.in-Assign.field-2 c.in-Assign.rhs) (c.counted.ensures.nodes ∙ sum_of_two _ _ _ _ _ _ c.expression.ensures.nodes c.right_side.ensures.nodes c.parallel.ensures.nodes)
 
 pub action-returns-in-Assign-clause-depth : goal.action-returns-in-Assign-clause-depth
-action-returns-in-Assign-clause-depth t c = rw (c.in-Assign.is, action-Assign c.in-Assign.lval c.in-Assign.field-1 c.in-Assign.field-2 c.in-Assign.rhs) (c.counted.ensures.depth ∙ greatest_of_two _ _ _ _ _ _ c.expression.ensures.depth c.right_side.ensures.depth c.beside.ensures.depth)
+action-returns-in-Assign-clause-depth t c = rw (c.in-Assign.is, action-Assign c.in-Assign.lval c.in-Assign.field-1 c.in-Assign.field-2 c.in-Assign.rhs) (c.counted.ensures.depth ∙ greatest_of_two _ _ _ _ _ _ c.expression.ensures.depth c.right_side.ensures.depth c.parallel.ensures.depth)
 
 pub action-returns-in-Step-clause-statements : goal.action-returns-in-Step-clause-statements
 action-returns-in-Step-clause-statements t c = rw (c.in-Step.is, action-Step c.in-Step.lval c.in-Step.field-1) (one_more _ 0 1 _ _ c.expression-in-Step.ensures.statements c.counted-in-Step.ensures.statements refl)
@@ -167,22 +167,22 @@ pub action-returns-in-Input-clause-depth : goal.action-returns-in-Input-clause-d
 action-returns-in-Input-clause-depth t c = rw (c.in-Input.is, action-Input c.in-Input.head) (c.counted-in-Input.ensures.depth ∙ c.input.ensures.depth)
 
 pub action-returns-in-While-clause-statements : goal.action-returns-in-While-clause-statements
-action-returns-in-While-clause-statements t c = rw (c.in-While.is, action-While c.in-While.test c.in-While.body) (one_more _ _ _ _ _ (behind_none _ _ _ _ _ c.expression-in-While.ensures.statements c.statement-in-While.ensures.statements c.beside-in-While.ensures.statements) c.counted-in-While.ensures.statements refl)
+action-returns-in-While-clause-statements t c = rw (c.in-While.is, action-While c.in-While.test c.in-While.body) (one_more _ _ _ _ _ (behind_none _ _ _ _ _ c.expression-in-While.ensures.statements c.statement-in-While.ensures.statements c.parallel-in-While.ensures.statements) c.counted-in-While.ensures.statements refl)
 
 pub action-returns-in-While-clause-nodes : goal.action-returns-in-While-clause-nodes
-action-returns-in-While-clause-nodes t c = rw (c.in-While.is, action-While c.in-While.test c.in-While.body) (c.counted-in-While.ensures.nodes ∙ sum_of_two _ _ _ _ _ _ c.expression-in-While.ensures.nodes c.statement-in-While.ensures.nodes c.beside-in-While.ensures.nodes)
+action-returns-in-While-clause-nodes t c = rw (c.in-While.is, action-While c.in-While.test c.in-While.body) (c.counted-in-While.ensures.nodes ∙ sum_of_two _ _ _ _ _ _ c.expression-in-While.ensures.nodes c.statement-in-While.ensures.nodes c.parallel-in-While.ensures.nodes)
 
 pub action-returns-in-While-clause-depth : goal.action-returns-in-While-clause-depth
-action-returns-in-While-clause-depth t c = rw (c.in-While.is, action-While c.in-While.test c.in-While.body) (c.counted-in-While.ensures.depth ∙ greatest_of_two _ _ _ _ _ _ c.expression-in-While.ensures.depth c.statement-in-While.ensures.depth c.beside-in-While.ensures.depth)
+action-returns-in-While-clause-depth t c = rw (c.in-While.is, action-While c.in-While.test c.in-While.body) (c.counted-in-While.ensures.depth ∙ greatest_of_two _ _ _ _ _ _ c.expression-in-While.ensures.depth c.statement-in-While.ensures.depth c.parallel-in-While.ensures.depth)
 
 pub action-returns-in-DoWhile-clause-statements : goal.action-returns-in-DoWhile-clause-statements
-action-returns-in-DoWhile-clause-statements t c = rw (c.in-DoWhile.is, action-DoWhile c.in-DoWhile.body c.in-DoWhile.test) (one_more _ _ _ _ _ (before_none _ _ _ _ _ c.statement-in-DoWhile.ensures.statements c.expression-in-DoWhile.ensures.statements c.beside-in-DoWhile.ensures.statements) c.counted-in-DoWhile.ensures.statements refl)
+action-returns-in-DoWhile-clause-statements t c = rw (c.in-DoWhile.is, action-DoWhile c.in-DoWhile.body c.in-DoWhile.test) (one_more _ _ _ _ _ (before_none _ _ _ _ _ c.statement-in-DoWhile.ensures.statements c.expression-in-DoWhile.ensures.statements c.parallel-in-DoWhile.ensures.statements) c.counted-in-DoWhile.ensures.statements refl)
 
 pub action-returns-in-DoWhile-clause-nodes : goal.action-returns-in-DoWhile-clause-nodes
-action-returns-in-DoWhile-clause-nodes t c = rw (c.in-DoWhile.is, action-DoWhile c.in-DoWhile.body c.in-DoWhile.test) (c.counted-in-DoWhile.ensures.nodes ∙ sum_of_two _ _ _ _ _ _ c.statement-in-DoWhile.ensures.nodes c.expression-in-DoWhile.ensures.nodes c.beside-in-DoWhile.ensures.nodes)
+action-returns-in-DoWhile-clause-nodes t c = rw (c.in-DoWhile.is, action-DoWhile c.in-DoWhile.body c.in-DoWhile.test) (c.counted-in-DoWhile.ensures.nodes ∙ sum_of_two _ _ _ _ _ _ c.statement-in-DoWhile.ensures.nodes c.expression-in-DoWhile.ensures.nodes c.parallel-in-DoWhile.ensures.nodes)
 
 pub action-returns-in-DoWhile-clause-depth : goal.action-returns-in-DoWhile-clause-depth
-action-returns-in-DoWhile-clause-depth t c = rw (c.in-DoWhile.is, action-DoWhile c.in-DoWhile.body c.in-DoWhile.test) (c.counted-in-DoWhile.ensures.depth ∙ greatest_of_two _ _ _ _ _ _ c.statement-in-DoWhile.ensures.depth c.expression-in-DoWhile.ensures.depth c.beside-in-DoWhile.ensures.depth)
+action-returns-in-DoWhile-clause-depth t c = rw (c.in-DoWhile.is, action-DoWhile c.in-DoWhile.body c.in-DoWhile.test) (c.counted-in-DoWhile.ensures.depth ∙ greatest_of_two _ _ _ _ _ _ c.statement-in-DoWhile.ensures.depth c.expression-in-DoWhile.ensures.depth c.parallel-in-DoWhile.ensures.depth)
 
 pub action-returns-in-Return-clause-statements : goal.action-returns-in-Return-clause-statements
 action-returns-in-Return-clause-statements t c = rw (c.in-Return.is, action-Return c.in-Return.rhs) (one_more _ _ _ _ _ c.right_side_if_any.ensures.statements c.counted-in-Return.ensures.statements refl)
@@ -251,13 +251,13 @@ pub statement-returns-clause-depth : goal.statement-returns-clause-depth
 statement-returns-clause-depth t c = rw (statement-Stmt c.args.s.now, ← c.deref.ensures) (one_more _ _ _ _ _ c.action.ensures.depth c.deeper.ensures.depth refl)
 
 pub branch-returns-clause-statements : goal.branch-returns-clause-statements
-branch-returns-clause-statements t c = rw (branch-Branch c.args.b.now) (one_more _ _ _ _ _ (behind_none _ _ _ _ _ c.place.ensures.statements c.statement.ensures.statements c.beside.ensures.statements) c.counted.ensures.statements refl)
+branch-returns-clause-statements t c = rw (branch-Branch c.args.b.now) (one_more _ _ _ _ _ (behind_none _ _ _ _ _ c.placement.ensures.statements c.statement.ensures.statements c.parallel.ensures.statements) c.counted.ensures.statements refl)
 
 pub branch-returns-clause-nodes : goal.branch-returns-clause-nodes
-branch-returns-clause-nodes t c = rw (branch-Branch c.args.b.now) (c.counted.ensures.nodes ∙ sum_of_two _ _ _ _ _ _ c.place.ensures.nodes c.statement.ensures.nodes c.beside.ensures.nodes)
+branch-returns-clause-nodes t c = rw (branch-Branch c.args.b.now) (c.counted.ensures.nodes ∙ sum_of_two _ _ _ _ _ _ c.placement.ensures.nodes c.statement.ensures.nodes c.parallel.ensures.nodes)
 
 pub branch-returns-clause-depth : goal.branch-returns-clause-depth
-branch-returns-clause-depth t c = rw (branch-Branch c.args.b.now) (c.counted.ensures.depth ∙ greatest_of_two _ _ _ _ _ _ c.place.ensures.depth c.statement.ensures.depth c.beside.ensures.depth)
+branch-returns-clause-depth t c = rw (branch-Branch c.args.b.now) (c.counted.ensures.depth ∙ greatest_of_two _ _ _ _ _ _ c.placement.ensures.depth c.statement.ensures.depth c.parallel.ensures.depth)
 
 pub statement_if_any-returns-in-None-clause-statements : goal.statement_if_any-returns-in-None-clause-statements
 statement_if_any-returns-in-None-clause-statements t c = rw c.in-None.is (ap (λ (s : Size). s.statements) c.none.ensures ∙ sym (up_to_none most_statements))
@@ -278,13 +278,13 @@ pub statement_if_any-returns-in-Some-clause-depth : goal.statement_if_any-return
 statement_if_any-returns-in-Some-clause-depth t c = rw c.in-Some.is c.statement.ensures.depth
 
 pub case-returns-clause-statements : goal.case-returns-clause-statements
-case-returns-clause-statements t c = rw (case-Case c.args.c.now, ← c.as_slice.ensures) (one_more _ _ _ _ _ (behind_none _ _ _ _ _ c.expression_if_any.ensures.statements (behind_none _ _ _ _ _ c.input_if_any.ensures.statements c.statements.ensures.statements c.beside-body.ensures.statements) c.beside.ensures.statements) c.counted.ensures.statements refl)
+case-returns-clause-statements t c = rw (case-Case c.args.c.now, ← c.as_slice.ensures) (one_more _ _ _ _ _ (behind_none _ _ _ _ _ c.expression_if_any.ensures.statements (behind_none _ _ _ _ _ c.input_if_any.ensures.statements c.statements.ensures.statements c.parallel-body.ensures.statements) c.parallel.ensures.statements) c.counted.ensures.statements refl)
 
 pub case-returns-clause-nodes : goal.case-returns-clause-nodes
-case-returns-clause-nodes t c = rw (case-Case c.args.c.now, ← c.as_slice.ensures) (c.counted.ensures.nodes ∙ sum_of_three _ _ _ _ _ _ _ _ _ c.expression_if_any.ensures.nodes c.input_if_any.ensures.nodes c.statements.ensures.nodes c.beside-body.ensures.nodes c.beside.ensures.nodes)
+case-returns-clause-nodes t c = rw (case-Case c.args.c.now, ← c.as_slice.ensures) (c.counted.ensures.nodes ∙ sum_of_three _ _ _ _ _ _ _ _ _ c.expression_if_any.ensures.nodes c.input_if_any.ensures.nodes c.statements.ensures.nodes c.parallel-body.ensures.nodes c.parallel.ensures.nodes)
 
 pub case-returns-clause-depth : goal.case-returns-clause-depth
-case-returns-clause-depth t c = rw (case-Case c.args.c.now, ← c.as_slice.ensures) (c.counted.ensures.depth ∙ greatest_of_three _ _ _ _ _ _ _ _ _ c.expression_if_any.ensures.depth c.input_if_any.ensures.depth c.statements.ensures.depth c.beside-body.ensures.depth c.beside.ensures.depth)
+case-returns-clause-depth t c = rw (case-Case c.args.c.now, ← c.as_slice.ensures) (c.counted.ensures.depth ∙ greatest_of_three _ _ _ _ _ _ _ _ _ c.expression_if_any.ensures.depth c.input_if_any.ensures.depth c.statements.ensures.depth c.parallel-body.ensures.depth c.parallel.ensures.depth)
 
 pub statements-loop-s-init : goal.statements-loop-s-init
 statements-loop-s-init t c = rw c.none-size.ensures (gathered_none _ _ _)

@@ -8,12 +8,12 @@ use Rattle.xc_size.proofs.measure.arguments.Goals as goal
 
 pub loop-arg-preserved : goal.loop-arg-preserved
 loop-arg-preserved c =
-    gathered_more _ _ _ c.loop-arg.size c.expression.result c.beside-size.result _ _ _ _ _ _ _ _ _
+    gathered_more _ _ _ c.loop-arg.size c.expression.result c.parallel-size.result _ _ _ _ _ _ _ _ _
     refl
     (sum_step nodes.of_argument tree.argument_of c.args.args.now c.loop-arg.arg-index c.arg-item.result c.arg-item.is c.loop-arg-test.true)
     (highest_step depth.of_argument tree.argument_of c.args.args.now c.loop-arg.arg-index c.arg-item.result c.arg-item.is c.loop-arg-test.true)
     c.expression.ensures.statements c.expression.ensures.nodes c.expression.ensures.depth
-    c.beside-size.ensures.statements c.beside-size.ensures.nodes c.beside-size.ensures.depth
+    c.parallel-size.ensures.statements c.parallel-size.ensures.nodes c.parallel-size.ensures.depth
     c.loop-arg.invariant
 
 pub returns-clause-statements : goal.returns-clause-statements

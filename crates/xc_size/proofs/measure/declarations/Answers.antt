@@ -9,12 +9,12 @@ use Rattle.xc_size.proofs.measure.declarations.Goals as goal
 
 pub loop-d-preserved : goal.loop-d-preserved
 loop-d-preserved c =
-    gathered_more _ _ _ c.loop-d.size c.declaration.result c.beside-size.result _ _ _ _ _ _ _ _ _
+    gathered_more _ _ _ c.loop-d.size c.declaration.result c.parallel-size.result _ _ _ _ _ _ _ _ _
     (sum_step (counts.of_declaration (statements_called c.args.sizes.now)) tree.declaration_of c.args.declared.now c.loop-d.d-index c.d-item.result c.d-item.is c.loop-d-test.true)
     (sum_step (nodes.of_declaration (nodes_called c.args.sizes.now)) tree.declaration_of c.args.declared.now c.loop-d.d-index c.d-item.result c.d-item.is c.loop-d-test.true)
     (highest_step (depths.of_declaration (depth_called c.args.sizes.now)) tree.declaration_of c.args.declared.now c.loop-d.d-index c.d-item.result c.d-item.is c.loop-d-test.true)
     c.declaration.ensures.statements c.declaration.ensures.nodes c.declaration.ensures.depth
-    c.beside-size.ensures.statements c.beside-size.ensures.nodes c.beside-size.ensures.depth
+    c.parallel-size.ensures.statements c.parallel-size.ensures.nodes c.parallel-size.ensures.depth
     c.loop-d.invariant
 
 pub returns-clause-statements : goal.returns-clause-statements

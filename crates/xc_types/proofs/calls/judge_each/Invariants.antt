@@ -5,7 +5,7 @@ use Rattle.xc_tree.specs.Types.Calls.{arguments}
 use Rattle.xc_tree.specs.Types.Named.{named_of}
 use Rattle.xc_tree.specs.Types.Sites as sites
 use Rattle.xc_types.specs.Judged.{judged}
-use Rattle.xc_types.specs.Findings.{saw}
+use Rattle.xc_types.specs.Checker.{saw}
 use Rattle.xc_types.proofs.calls.judge_each.Given as goal
 
 abbrev pub invariant-loop-i : goal.invariant-loop-i

@@ -2,7 +2,7 @@ use Rattle.std.proofs.Common.{ℕ, option_map, slice_get, sym, ap, ◌∙◌}
 use Rattle.std.specs.Option.{option_copied}
 use Rattle.xc_tree.specs.Trees as tree
 use Rattle.xc_tree.specs.Types.Named.{named_of, function_of, what_at}
-use Rattle.xc_types.specs.Around.{around_of}
+use Rattle.xc_types.specs.Enclosing.{around_of}
 use Rattle.xc_types.specs.Judged.{with_call}
 use Rattle.xc_types.proofs.Judging.{whole_call}
 use Rattle.xc_types.proofs.calls.right_side.Goals as goal

@@ -3,8 +3,8 @@ use Rattle.xc_tree.specs.Names.Marks as marks
 use Rattle.xc_tree.specs.Trees.{declaration_of}
 use Rattle.xc_tree.specs.Types.Named.{named_of}
 use Rattle.xc_tree.specs.Types.Sites as sites
-use Rattle.xc_types.specs.Around.{around_of}
-use Rattle.xc_types.specs.Findings.{saw}
+use Rattle.xc_types.specs.Enclosing.{around_of}
+use Rattle.xc_types.specs.Checker.{saw}
 use Rattle.xc_types.proofs.declarations.declarations.Given as goal
 
 abbrev pub invariant-loop-d : goal.invariant-loop-d

@@ -8,8 +8,8 @@ use Rattle.xc_tree.specs.Types.Named.{named_of, past}
 use Rattle.xc_tree.specs.Types.Sites as sites
 use Rattle.xc_tree.specs.Types.Words.{gives_unsigned, is_unsigned, form_is_unsigned}
 use Rattle.xc_tree.proofs.Forms.{expression-Expr, form-Num, form-Name, form-Index, form-Un, form-Bin, form-Cond, form-Cast}
-use Rattle.xc_types.specs.declared.findings.Findings.{Findings}
-use Rattle.xc_types.specs.Findings.{saw, after_indexed, with_type}
+use Rattle.xc_types.specs.declared.checker.Checker.{Checker}
+use Rattle.xc_types.specs.Checker.{saw, after_indexed, with_type}
 use Rattle.xc_types.proofs.Depths.{depth, only, left_of_two, right_of_two, first_of_three, second_of_three, third_of_three, itself}
 use Rattle.xc_types.proofs.Joins.{saw_names, saw_nothing}
 use Rattle.xc_types.proofs.Loops.{behind}
@@ -25,13 +25,13 @@ pub element-returns-clause-found : goal.element-returns-clause-found
 element-returns-clause-found t c =
     let n = named_of c.args.named.now in
     let index = expression_of c.args.index.now in
-    c.in_ok-expression.ensures.found ∙ ap (λ (s : Findings). saw s (marks.of_expression index) (sites.of_expression n s.names index)) c.in_ok-is_unsigned.ensures.found
+    c.in_ok-expression.ensures.found ∙ ap (λ (s : Checker). saw s (marks.of_expression index) (sites.of_expression n s.names index)) c.in_ok-is_unsigned.ensures.found
 
 pub cast-returns-clause-found : goal.cast-returns-clause-found
 cast-returns-clause-found t c =
     let n = named_of c.args.named.now in
     let operand = expression_of c.args.operand.now in
-    c.in_ok-expression.ensures.found ∙ ap (λ (s : Findings). saw s (marks.of_expression operand) (sites.of_expression n s.names operand)) c.in_ok-add_type.ensures.found
+    c.in_ok-expression.ensures.found ∙ ap (λ (s : Checker). saw s (marks.of_expression operand) (sites.of_expression n s.names operand)) c.in_ok-add_type.ensures.found
 
 pub unary-set_type-requires : goal.unary-set_type-requires
 unary-set_type-requires t c =
@@ -45,7 +45,7 @@ unary-returns-clause-is_unsigned t c =
     c.gives_unsigned-is_unsigned.ensures
     ∙ ap (λ (u : Bool). gives_unsigned c.args.symbol u false)
     (c.in_ok-inside.ensures.is_unsigned
-    ∙ ap (λ (k : ℕ). is_unsigned n k operand) (ap (λ (z : Findings). z.names) c.in_ok-node.ensures.found ∙ names_typed false c.args.found.now))
+    ∙ ap (λ (k : ℕ). is_unsigned n k operand) (ap (λ (z : Checker). z.names) c.in_ok-node.ensures.found ∙ names_typed false c.args.found.now))
 
 pub unary-returns-clause-found : goal.unary-returns-clause-found
 unary-returns-clause-found t c =
@@ -70,7 +70,7 @@ right_operand-returns-clause-is_unsigned t c =
     c.gives_unsigned-is_unsigned.ensures
     ∙ ap (gives_unsigned c.args.symbol c.args.first)
     (c.in_ok-second.ensures.is_unsigned
-    ∙ ap (λ (k : ℕ). is_unsigned n k right) (ap (λ (z : Findings). z.names) c.in_ok-node.ensures.found ∙ names_typed false c.args.found.now))
+    ∙ ap (λ (k : ℕ). is_unsigned n k right) (ap (λ (z : Checker). z.names) c.in_ok-node.ensures.found ∙ names_typed false c.args.found.now))
 
 pub right_operand-returns-clause-found : goal.right_operand-returns-clause-found
 right_operand-returns-clause-found t c =
@@ -85,11 +85,11 @@ right_operand-returns-clause-found t c =
 
 pub condition-returns-clause-found : goal.condition-returns-clause-found
 condition-returns-clause-found t c =
-    subst (λ (s : Findings). OnOk c.add_type.result (c.add_type.new.self ≡ with_type false s)) c.in_ok-expression.ensures.found c.add_type.ensures.found
+    subst (λ (s : Checker). OnOk c.add_type.result (c.add_type.new.self ≡ with_type false s)) c.in_ok-expression.ensures.found c.add_type.ensures.found
 
 pub condition-returns-clause-place : goal.condition-returns-clause-place
 condition-returns-clause-place t c =
-    subst (λ (s : Findings). IfOk c.add_type.result (λ place. place ≡ length s.types)) c.in_ok-expression.ensures.found c.add_type.ensures.place
+    subst (λ (s : Checker). IfOk c.add_type.result (λ place. place ≡ length s.types)) c.in_ok-expression.ensures.found c.add_type.ensures.place
 
 pub expression-returns-in_ok-add_type-in-Num-clause-found : goal.expression-returns-in_ok-add_type-in-Num-clause-found
 expression-returns-in_ok-add_type-in-Num-clause-found t c =
@@ -111,7 +111,7 @@ expression-returns-in-Name-clause-found t c =
     let i : Id = record { text = c.in-Name.field-0; pos = c.args.e.now.pos } in
     let name = by_form c.args.e.now (plain.name c.in-Name.field-0) (ap form_of c.in-Name.is ∙ form-Name c.in-Name.field-0) in
     subst (λ (x : plain.Expression). OnOk c.word.result (c.word.new.found ≡ saw found (marks.of_expression x) (sites.of_expression n found.names x))) name
-    (subst (λ (s : Findings). OnOk c.word.result (c.word.new.found ≡ s)) (word_seen n found i) c.word.ensures.found)
+    (subst (λ (s : Checker). OnOk c.word.result (c.word.new.found ≡ s)) (word_seen n found i) c.word.ensures.found)
 
 pub expression-returns-in-Name-clause-is_unsigned : goal.expression-returns-in-Name-clause-is_unsigned
 expression-returns-in-Name-clause-is_unsigned t c =
@@ -127,11 +127,11 @@ expression-returns-in-Index-clause-found t c =
     let ms = marks.of_expression index in
     let there = λ (k : ℕ). sites.of_expression n k index in
     let i : Id = record { text = c.in-Index.field-0; pos = c.args.e.now.pos } in
-    let past_name : Findings = after_indexed n i.pos found in
+    let past_name : Checker = after_indexed n i.pos found in
     let element = by_form c.args.e.now (plain.index c.in-Index.field-0 index)
     (ap form_of c.in-Index.is ∙ form-Index c.in-Index.field-0 c.in-Index.index ∙ ap (λ (x : Expr). plain.index c.in-Index.field-0 (expression_of x)) (sym c.deref.ensures)) in
     subst (λ (x : plain.Expression). OnOk c.element.result (c.element.new.found ≡ saw found (marks.of_expression x) (sites.of_expression n found.names x))) element
-    (subst (λ (s : Findings). OnOk c.element.result (c.element.new.found ≡ s)) (indexed_seen n found past_name (saw past_name ms (there past_name.names)) i ms there refl refl) c.element.ensures.found)
+    (subst (λ (s : Checker). OnOk c.element.result (c.element.new.found ≡ s)) (indexed_seen n found past_name (saw past_name ms (there past_name.names)) i ms there refl refl) c.element.ensures.found)
 
 pub expression-returns-in-Index-clause-is_unsigned : goal.expression-returns-in-Index-clause-is_unsigned
 expression-returns-in-Index-clause-is_unsigned t c =
@@ -168,7 +168,7 @@ expression-returns-in_ok-first-in-Bin-clause-found t c =
     ∙ ap (λ (x : Expr). plain.binary o left (expression_of x)) (sym c.deref-in-Bin-2.ensures)) in
     subst (λ (x : plain.Expression). OnOk c.right_operand.result (c.right_operand.new.found ≡ saw found (marks.of_expression x) (sites.of_expression n found.names x))) binary
     (subst (λ (u : Bool). OnOk c.right_operand.result (c.right_operand.new.found ≡ saw found (ms ++ marks.of_expression right) (sites.of_expression n found.names left ++ there u (past found.names ms)))) c.in_ok-first-in-Bin.ensures.is_unsigned
-    (subst (λ (s : Findings). OnOk c.right_operand.result (c.right_operand.new.found ≡ s))
+    (subst (λ (s : Checker). OnOk c.right_operand.result (c.right_operand.new.found ≡ s))
     (sym (behind found c.expression.new.found ms (marks.of_expression right) (sites.of_expression n found.names left) (there c.in_ok-first-in-Bin.first) c.in_ok-first-in-Bin.ensures.found))
     c.right_operand.ensures.found))
 
@@ -180,7 +180,7 @@ expression-returns-in_ok-first-in-Bin-clause-is_unsigned t c =
     let left = expression_of c.deref-in-Bin.result.now in
     let right = expression_of c.deref-in-Bin-2.result.now in
     let ms = marks.of_expression left in
-    let names = ap (λ (z : Findings). z.names) c.in_ok-first-in-Bin.ensures.found ∙ saw_names found ms (sites.of_expression n found.names left) in
+    let names = ap (λ (z : Checker). z.names) c.in_ok-first-in-Bin.ensures.found ∙ saw_names found ms (sites.of_expression n found.names left) in
     let binary = by_form c.args.e.now (plain.binary o left right)
     (ap form_of c.in-Bin.is ∙ form-Bin o c.in-Bin.left c.in-Bin.right
     ∙ ap (λ (x : Expr). plain.binary o (expression_of x) (expression_of c.in-Bin.right.value)) (sym c.deref-in-Bin.ensures)
@@ -197,7 +197,7 @@ expression-set_type-requires t c =
     let found = c.args.found.now in
     let test = expression_of c.deref-in-Cond.result.now in
     let second = expression_of c.deref-in-Cond-3.result.now in
-    let before : Findings = saw found (marks.of_expression test) (sites.of_expression n found.names test) in
+    let before : Checker = saw found (marks.of_expression test) (sites.of_expression n found.names test) in
     let inside = c.condition.new.found in
     let both = both_seen inside c.expression-in-Cond.new.found c.expression-in-Cond-2.new.found _ _ _ (λ (k : ℕ). sites.of_expression n k second) c.in_ok-first-in-Cond.ensures.found c.in_ok-second-in-Cond.ensures.found in
     node_within before inside c.expression-in-Cond-2.new.found _ _ c.in_ok-node-in-Cond.node c.in_ok-node-in-Cond.ensures.found both c.in_ok-node-in-Cond.ensures.place
@@ -212,7 +212,7 @@ expression-returns-in_ok-second-in-Cond-clause-is_unsigned t c =
     let ms = marks.of_expression test in
     let inside = c.condition.new.found in
     let names = names_inside found (saw found ms (sites.of_expression n found.names test)) inside ms (sites.of_expression n found.names test) refl c.in_ok-node-in-Cond.ensures.found in
-    let names_between = ap (λ (z : Findings). z.names) c.in_ok-first-in-Cond.ensures.found ∙ saw_names inside (marks.of_expression first) (sites.of_expression n inside.names first) ∙ ap (λ (k : ℕ). past k (marks.of_expression first)) names in
+    let names_between = ap (λ (z : Checker). z.names) c.in_ok-first-in-Cond.ensures.found ∙ saw_names inside (marks.of_expression first) (sites.of_expression n inside.names first) ∙ ap (λ (k : ℕ). past k (marks.of_expression first)) names in
     let choice = by_form c.args.e.now (plain.choice test first second)
     (ap form_of c.in-Cond.is ∙ form-Cond c.in-Cond.test c.in-Cond.first c.in-Cond.second
     ∙ ap (λ (x : Expr). plain.choice (expression_of x) (expression_of c.in-Cond.first.value) (expression_of c.in-Cond.second.value)) (sym c.deref-in-Cond.ensures)
@@ -231,12 +231,12 @@ expression-returns-in_ok-second-in-Cond-clause-found t c =
     let first = expression_of c.deref-in-Cond-2.result.now in
     let second = expression_of c.deref-in-Cond-3.result.now in
     let ms = marks.of_expression test in
-    let before : Findings = saw found ms (sites.of_expression n found.names test) in
+    let before : Checker = saw found ms (sites.of_expression n found.names test) in
     let inside = c.condition.new.found in
     let there = λ (k : ℕ). sites.of_expression n k first ++ sites.of_expression n (past k (marks.of_expression first)) second in
     let both = both_seen inside c.expression-in-Cond.new.found c.expression-in-Cond-2.new.found (marks.of_expression first) (marks.of_expression second) (sites.of_expression n inside.names first) (λ (k : ℕ). sites.of_expression n k second) c.in_ok-first-in-Cond.ensures.found c.in_ok-second-in-Cond.ensures.found in
     let names = names_inside found before inside ms (sites.of_expression n found.names test) refl c.in_ok-node-in-Cond.ensures.found in
-    let names_between = ap (λ (z : Findings). z.names) c.in_ok-first-in-Cond.ensures.found ∙ saw_names inside (marks.of_expression first) (sites.of_expression n inside.names first) ∙ ap (λ (k : ℕ). past k (marks.of_expression first)) names in
+    let names_between = ap (λ (z : Checker). z.names) c.in_ok-first-in-Cond.ensures.found ∙ saw_names inside (marks.of_expression first) (sites.of_expression n inside.names first) ∙ ap (λ (k : ℕ). past k (marks.of_expression first)) names in
     let gives : c.either-is_unsigned.result ≡ (is_unsigned n (past found.names ms) first || is_unsigned n (past (past found.names ms) (marks.of_expression first)) second) =
     c.either-is_unsigned.ensures
     ∙ ap (λ (u : Bool). u || c.in_ok-second-in-Cond.second) (c.in_ok-first-in-Cond.ensures.is_unsigned ∙ ap (λ (k : ℕ). is_unsigned n k first) names)
@@ -260,11 +260,11 @@ expression-returns-in-Cast-clause-found t c =
     let operand = expression_of c.deref-in-Cast.result.now in
     let ms = marks.of_expression operand in
     let there = λ (k : ℕ). sites.of_expression n k operand in
-    let typed : Findings = with_type u found in
+    let typed : Checker = with_type u found in
     let cast = by_form c.args.e.now (plain.cast u operand)
     (ap form_of c.in-Cast.is ∙ form-Cast u c.in-Cast.operand ∙ ap (λ (x : Expr). plain.cast u (expression_of x)) (sym c.deref-in-Cast.ensures)) in
     subst (λ (x : plain.Expression). OnOk c.cast.result (c.cast.new.found ≡ saw found (marks.of_expression x) (sites.of_expression n found.names x))) cast
-    (subst (λ (s : Findings). OnOk c.cast.result (c.cast.new.found ≡ s)) (typed_seen found typed (saw typed ms (there typed.names)) u ms there refl refl) c.cast.ensures.found)
+    (subst (λ (s : Checker). OnOk c.cast.result (c.cast.new.found ≡ s)) (typed_seen found typed (saw typed ms (there typed.names)) u ms there refl refl) c.cast.ensures.found)
 
 pub expression-returns-in-Cast-clause-is_unsigned : goal.expression-returns-in-Cast-clause-is_unsigned
 expression-returns-in-Cast-clause-is_unsigned t c =

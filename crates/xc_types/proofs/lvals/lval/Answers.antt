@@ -3,7 +3,7 @@ use Rattle.xc_tree.specs.Names.Marks as marks
 use Rattle.xc_tree.specs.Trees.{expression_of}
 use Rattle.xc_tree.specs.Types.Named.{named_of}
 use Rattle.xc_tree.specs.Types.Sites.{Site}
-use Rattle.xc_types.specs.Findings.{saw}
+use Rattle.xc_types.specs.Checker.{saw}
 use Rattle.xc_types.proofs.Unnamed.{unnamed_lval}
 use Rattle.xc_types.proofs.lvals.lval.Goals as goal
 

@@ -1,7 +1,7 @@
 use Rattle.std.proofs.Common.{ℕ, Bool, not, ap, ◌∙◌}
 use Rattle.xc_tree.specs.Trees as tree
 use Rattle.xc_tree.specs.Types.Named.{named_of}
-use Rattle.xc_types.specs.Findings.{with_broken}
+use Rattle.xc_types.specs.Checker.{with_broken}
 use Rattle.xc_types.specs.Places.{has_form_of_place}
 use Rattle.xc_types.proofs.Placings.{whole_place}
 use Rattle.xc_types.proofs.places.place_at.Goals as goal

@@ -1,7 +1,7 @@
 use Rattle.std.proofs.Common.{◌≡◌, drop}
 use Rattle.xc_tree.specs.Names.Marks as marks
 use Rattle.xc_tree.specs.Types.Sites as sites
-use Rattle.xc_types.specs.Findings.{saw}
+use Rattle.xc_types.specs.Checker.{saw}
 use Rattle.xc_types.proofs.program.parameters.Given as goal
 
 abbrev pub invariant-loop-p : goal.invariant-loop-p

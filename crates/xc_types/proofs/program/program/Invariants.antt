@@ -3,7 +3,7 @@ use Rattle.xc_tree.specs.Names.Marks as marks
 use Rattle.xc_tree.specs.Trees.{item_of}
 use Rattle.xc_tree.specs.Types.Named.{named_of}
 use Rattle.xc_tree.specs.Types.Sites as sites
-use Rattle.xc_types.specs.Findings.{saw}
+use Rattle.xc_types.specs.Checker.{saw}
 use Rattle.xc_types.proofs.program.program.Given as goal
 
 abbrev pub invariant-loop-item : goal.invariant-loop-item

@@ -2,7 +2,7 @@ use Rattle.std.proofs.Common.{◌≡◌, drop, map}
 use Rattle.xc_tree.specs.Plain as plain
 use Rattle.xc_tree.specs.Shapes.Rules.{defaults}
 use Rattle.xc_tree.specs.Trees.{case_of}
-use Rattle.xc_types.specs.Findings.{with_broken_at}
+use Rattle.xc_types.specs.Checker.{with_broken_at}
 use Rattle.xc_types.proofs.Defaults.{behind_first}
 use Rattle.xc_types.proofs.shapes.defaults.Given as goal
 

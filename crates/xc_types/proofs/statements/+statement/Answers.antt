@@ -4,8 +4,8 @@ use Rattle.xc_tree.specs.Plain as plain
 use Rattle.xc_tree.specs.Shapes.Rules.{are_one}
 use Rattle.xc_tree.specs.Trees as tree
 use Rattle.xc_tree.specs.Types.Named.{named_of}
-use Rattle.xc_types.specs.Around.{around_of}
-use Rattle.xc_types.specs.Findings.{with_broken}
+use Rattle.xc_types.specs.Enclosing.{around_of}
+use Rattle.xc_types.specs.Checker.{with_broken}
 use Rattle.xc_tree.specs.Heights.{height, height_of_maybe, height_of_statements, height_of_branch, height_of_branches, height_of_case, height_of_cases}
 use Rattle.xc_tree.proofs.Heights.{falls, same_height, no_higher, in_left, in_right, in_middle, in_last, statement_within, branch_within, case_within}
 use Rattle.xc_types.proofs.Heights.{higher}

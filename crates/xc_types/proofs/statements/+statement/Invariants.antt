@@ -4,8 +4,8 @@ use Rattle.xc_tree.specs.Plain as plain
 use Rattle.xc_tree.specs.Trees.{branch_of, case_of, maybe_of, statement_of}
 use Rattle.xc_tree.specs.Types.Named.{named_of}
 use Rattle.xc_tree.specs.Types.Sites as sites
-use Rattle.xc_types.specs.Around.{around_of}
-use Rattle.xc_types.specs.Findings.{saw}
+use Rattle.xc_types.specs.Enclosing.{around_of}
+use Rattle.xc_types.specs.Checker.{saw}
 use Rattle.xc_tree.specs.Heights.{height, height_of_maybe, height_of_statements, height_of_branch, height_of_branches, height_of_case, height_of_cases}
 use Rattle.xc_types.proofs.statements.+statement.Given as goal
 

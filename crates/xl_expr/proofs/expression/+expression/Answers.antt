@@ -118,13 +118,13 @@ emit_joined-emit_kept-requires t c =
 pub emit_two-emit_short-requires : goal.emit_two-emit_short-requires
 emit_two-emit_short-requires t c =
     let x = expression_of c.args.first.now in
-    let l = longer c.args.plan.now.vars x c.args.k (length c.args.e.now) c.args.last c.args.e.now c.emit_at.new.e c.in_ok-emit_at-in-Both.ensures.ok in
+    let l = longer c.args.plan.now.vars x c.args.k (length c.args.e.now) c.args.last c.args.e.now c.emit_at.new.e c.in_ok-emit_at-in-And.ensures.ok in
     (omega (arith, c.decreases), (tt, (omega (arith, l, c.requires.room), omega (arith, c.requires.deep_second))))
 
-pub emit_two-emit_short-requires-in-Either : goal.emit_two-emit_short-requires-in-Either
-emit_two-emit_short-requires-in-Either t c =
+pub emit_two-emit_short-requires-in-Or : goal.emit_two-emit_short-requires-in-Or
+emit_two-emit_short-requires-in-Or t c =
     let x = expression_of c.args.first.now in
-    let l = longer c.args.plan.now.vars x c.args.k (length c.args.e.now) c.args.last c.args.e.now c.emit_at-in-Either.new.e c.in_ok-emit_at-in-Either.ensures.ok in
+    let l = longer c.args.plan.now.vars x c.args.k (length c.args.e.now) c.args.last c.args.e.now c.emit_at-in-Or.new.e c.in_ok-emit_at-in-Or.ensures.ok in
     (omega (arith, c.decreases), (tt, (omega (arith, l, c.requires.room), omega (arith, c.requires.deep_second))))
 
 pub emit_short-put_all-requires : goal.emit_short-put_all-requires
@@ -283,17 +283,17 @@ emit_short-returns-in_err-skip-clause-refused t c = on_err _ _ (same_extends _ _
 pub emit_short-returns-in_err-emit_at-clause-refused : goal.emit_short-returns-in_err-emit_at-clause-refused
 emit_short-returns-in_err-emit_at-clause-refused t c = on_err _ _ (behind_extends _ _ _ _ c.in_ok-skip.ensures.ok c.in_err-emit_at.ensures.refused)
 
-pub emit_two-returns-in_err-emit_at-in-Both-clause-refused : goal.emit_two-returns-in_err-emit_at-in-Both-clause-refused
-emit_two-returns-in_err-emit_at-in-Both-clause-refused t c = on_err _ _ c.in_err-emit_at-in-Both.ensures.refused
+pub emit_two-returns-in_err-emit_at-in-And-clause-refused : goal.emit_two-returns-in_err-emit_at-in-And-clause-refused
+emit_two-returns-in_err-emit_at-in-And-clause-refused t c = on_err _ _ c.in_err-emit_at-in-And.ensures.refused
 
-pub emit_two-returns-in_ok-emit_at-in-Both-clause-refused : goal.emit_two-returns-in_ok-emit_at-in-Both-clause-refused
-emit_two-returns-in_ok-emit_at-in-Both-clause-refused t c = on_err_behind _ _ _ _ _ c.in_ok-emit_at-in-Both.ensures.ok c.emit_short.ensures.refused
+pub emit_two-returns-in_ok-emit_at-in-And-clause-refused : goal.emit_two-returns-in_ok-emit_at-in-And-clause-refused
+emit_two-returns-in_ok-emit_at-in-And-clause-refused t c = on_err_behind _ _ _ _ _ c.in_ok-emit_at-in-And.ensures.ok c.emit_short.ensures.refused
 
-pub emit_two-returns-in_err-emit_at-in-Either-clause-refused : goal.emit_two-returns-in_err-emit_at-in-Either-clause-refused
-emit_two-returns-in_err-emit_at-in-Either-clause-refused t c = on_err _ _ c.in_err-emit_at-in-Either.ensures.refused
+pub emit_two-returns-in_err-emit_at-in-Or-clause-refused : goal.emit_two-returns-in_err-emit_at-in-Or-clause-refused
+emit_two-returns-in_err-emit_at-in-Or-clause-refused t c = on_err _ _ c.in_err-emit_at-in-Or.ensures.refused
 
-pub emit_two-returns-in_ok-emit_at-in-Either-clause-refused : goal.emit_two-returns-in_ok-emit_at-in-Either-clause-refused
-emit_two-returns-in_ok-emit_at-in-Either-clause-refused t c = on_err_behind _ _ _ _ _ c.in_ok-emit_at-in-Either.ensures.ok c.emit_short-in-Either.ensures.refused
+pub emit_two-returns-in_ok-emit_at-in-Or-clause-refused : goal.emit_two-returns-in_ok-emit_at-in-Or-clause-refused
+emit_two-returns-in_ok-emit_at-in-Or-clause-refused t c = on_err_behind _ _ _ _ _ c.in_ok-emit_at-in-Or.ensures.ok c.emit_short-in-Or.ensures.refused
 
 -- the code of each way
 
@@ -375,19 +375,19 @@ emit_operation-returns-in_ok-emit_at-in-len3-up-clause-ok t c =
     on_code_behind _ _ _ _ _ _ (choice_code c.args.plan.now.vars c.args.operation.pos (expression_of c.second-item-2.result) (expression_of c.third-item.result) c.args.k) c.in_ok-emit_at-in-len3-up.ensures.ok
     (of_three (operator_meant c.args.operation.operator) c.args.operation.is_unsigned c.args.operation.pos c.args.plan.now.vars c.args.operands.now c.args.k (length c.args.e.now) c.args.last c.test-item.result c.second-item-2.result c.third-item.result c.in-len3-up.len_at_least c.test-item.is c.second-item-2.is c.third-item.is) c.emit_choice.ensures.ok
 
-pub emit_two-returns-in_ok-emit_at-in-Both-clause-ok : goal.emit_two-returns-in_ok-emit_at-in-Both-clause-ok
-emit_two-returns-in_ok-emit_at-in-Both-clause-ok t c =
+pub emit_two-returns-in_ok-emit_at-in-And-clause-ok : goal.emit_two-returns-in_ok-emit_at-in-And-clause-ok
+emit_two-returns-in_ok-emit_at-in-And-clause-ok t c =
     let x = operand_of c.args.plan.now.vars (expression_of c.args.first.now) in
     let y = operand_of c.args.plan.now.vars (expression_of c.args.second.now) in
-    on_code_behind _ _ _ _ _ _ (short_behind c.args.plan.now.vars (Brff R0 0) c.args.operation.pos (expression_of c.args.second.now) c.args.k) c.in_ok-emit_at-in-Both.ensures.ok
-    (short_chained (Brff R0) c.args.operation.pos x.piece y.piece c.args.k (length c.args.e.now) c.args.last ∙ ap (λ (o : Operator). two_code (operator_meant o) c.args.operation.is_unsigned c.args.operation.pos x y c.args.k (length c.args.e.now) c.args.last) (sym c.in-Both.is)) c.emit_short.ensures.ok
+    on_code_behind _ _ _ _ _ _ (short_behind c.args.plan.now.vars (Brff R0 0) c.args.operation.pos (expression_of c.args.second.now) c.args.k) c.in_ok-emit_at-in-And.ensures.ok
+    (short_chained (Brff R0) c.args.operation.pos x.piece y.piece c.args.k (length c.args.e.now) c.args.last ∙ ap (λ (o : Operator). two_code (operator_meant o) c.args.operation.is_unsigned c.args.operation.pos x y c.args.k (length c.args.e.now) c.args.last) (sym c.in-And.is)) c.emit_short.ensures.ok
 
-pub emit_two-returns-in_ok-emit_at-in-Either-clause-ok : goal.emit_two-returns-in_ok-emit_at-in-Either-clause-ok
-emit_two-returns-in_ok-emit_at-in-Either-clause-ok t c =
+pub emit_two-returns-in_ok-emit_at-in-Or-clause-ok : goal.emit_two-returns-in_ok-emit_at-in-Or-clause-ok
+emit_two-returns-in_ok-emit_at-in-Or-clause-ok t c =
     let x = operand_of c.args.plan.now.vars (expression_of c.args.first.now) in
     let y = operand_of c.args.plan.now.vars (expression_of c.args.second.now) in
-    on_code_behind _ _ _ _ _ _ (short_behind c.args.plan.now.vars (Brft R0 0) c.args.operation.pos (expression_of c.args.second.now) c.args.k) c.in_ok-emit_at-in-Either.ensures.ok
-    (short_chained (Brft R0) c.args.operation.pos x.piece y.piece c.args.k (length c.args.e.now) c.args.last ∙ ap (λ (o : Operator). two_code (operator_meant o) c.args.operation.is_unsigned c.args.operation.pos x y c.args.k (length c.args.e.now) c.args.last) (sym c.in-Either.is)) c.emit_short-in-Either.ensures.ok
+    on_code_behind _ _ _ _ _ _ (short_behind c.args.plan.now.vars (Brft R0 0) c.args.operation.pos (expression_of c.args.second.now) c.args.k) c.in_ok-emit_at-in-Or.ensures.ok
+    (short_chained (Brft R0) c.args.operation.pos x.piece y.piece c.args.k (length c.args.e.now) c.args.last ∙ ap (λ (o : Operator). two_code (operator_meant o) c.args.operation.is_unsigned c.args.operation.pos x y c.args.k (length c.args.e.now) c.args.last) (sym c.in-Or.is)) c.emit_short-in-Or.ensures.ok
 
 -- room, and a target that is open
 

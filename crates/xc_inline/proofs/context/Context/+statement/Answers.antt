@@ -516,7 +516,7 @@ for_turns-returns t c = given_on c.looped.result c.looped.ensures (λ _ h.
     let copy = spec.statement_copy copies' (tree.statement_of c.args.body.now) in
     let body = copy (contexts.in_loop here c.args.pos) scope in
     h (scope_of c.maybe-next.new.scope) inner body (copied_as inner c.statement-body.result (λ i. copy (around i) (left i)) c.statement-body.ensures)
-    ∙ λ i. flow.loop_at here (whole i) (test i) (flow.turn here (whole i) body.code []) (copies.code_of (next i)) (copies.joined (next i) body))
+    ∙ λ i. flow.loop_at here (whole i) (test i) (flow.iteration here (whole i) body.code []) (copies.code_of (next i)) (copies.joined (next i) body))
 
 pub for_turns-maybe-next-requires : goal.for_turns-maybe-next-requires
 for_turns-maybe-next-requires t c =

@@ -22,4 +22,4 @@ returns c = given_on c.loop_at.result c.loop_at.ensures (λ _ h. λ between behi
     let whole = ap (λ p. p.0.0.whole) same in
     let test = ap (λ p. expression_of p.0.1) same in
     h between behind
-    ∙ λ i. flow.loop_at here (whole i) (test i) (flow.turn here (whole i) (body i).code []) (copies.code_of (next i)) (copies.joined (next i) (body i)))
+    ∙ λ i. flow.loop_at here (whole i) (test i) (flow.iteration here (whole i) (body i).code []) (copies.code_of (next i)) (copies.joined (next i) (body i)))

@@ -30,4 +30,4 @@ returns c = given_on c.loop_at.result c.loop_at.ensures (λ _ h. λ done is.
     let last = (rw c.in_ok-paths-2.ensures.made at c.leave_unless-last.ensures) ∙ λ i. flow.leave_unless here ((c.as_slice.ensures ∙ ap (λ p. p.whole) first) i) (test i) in
     let none = c.nothing-next.ensures behind in
     h behind behind
-    ∙ λ i. flow.loop_at here (whole i) (expression-Num 1 i) (flow.turn here (whole i) (body i).code (last i ∷ [])) (copies.code_of (none i)) (copies.joined (none i) (body i)))
+    ∙ λ i. flow.loop_at here (whole i) (expression-Num 1 i) (flow.iteration here (whole i) (body i).code (last i ∷ [])) (copies.code_of (none i)) (copies.joined (none i) (body i)))

@@ -17,16 +17,16 @@ pub data Holder : Type 0 where
   a_transaction : Holder
 
 -- the function that a statement stands in, and what there is around it inside the function's block, the innermost first
-pub record Around : Type 0 where
+pub record Enclosing : Type 0 where
   pub function : plain.Head
   pub holders : List Holder
 
 -- what is around a statement that stands directly in a holder
-abbrev pub inside : Holder → Around → Around
+abbrev pub inside : Holder → Enclosing → Enclosing
 inside h a = record { function = a.function; holders = h ∷ a.holders }
 
 -- directly in a function's block
-abbrev pub in_block_of : plain.Head → Around
+abbrev pub in_block_of : plain.Head → Enclosing
 in_block_of f = record { function = f; holders = [] }
 
 -- a `break` leaves the innermost loop or case around it, in the same branch and transaction
@@ -71,5 +71,5 @@ abbrev pub is_main : plain.Head → Bool
 is_main h = bytes_eq h.name.text (codes "main") && is_empty h.params
 
 -- directly in main's block
-abbrev pub directly_in_main : Around → Bool
+abbrev pub directly_in_main : Enclosing → Bool
 directly_in_main a = is_empty a.holders && is_main a.function

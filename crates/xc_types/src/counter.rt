@@ -6,22 +6,22 @@ use xw_words::Memory;
 
 /// A count that takes a byte for each that is counted, so that nothing but memory bounds it. Contracts see the number.
 #[derive(Drop)]
-pub struct Tally {
+pub struct Counter {
     marks: Vec<u8>,
 }
 
-impl Model for Tally {
+impl Model for Counter {
     ghost Value = { ℕ };
 
     ghost view = { λ t. length t.marks.items };
 }
 
-impl Tally {
+impl Counter {
     /// None.
-    pub fn new(alloc: Global) -> Tally
+    pub fn new(alloc: Global) -> Counter
         ensures { result ≡ 0 }
     {
-        Tally {
+        Counter {
             marks: Vec::new(alloc),
         }
     }

@@ -1,7 +1,7 @@
 ghost use Rattle.std.specs.Prelude.{◌≡◌};
-ghost use Rattle.xc_tree.specs.Shapes.Around as shape;
+ghost use Rattle.xc_tree.specs.Shapes.Enclosing as shape;
 ghost use Rattle.xc_tree.specs.Trees.{head_of};
-ghost use Rattle.xc_types.specs.Around.{around_of};
+ghost use Rattle.xc_types.specs.Enclosing.{around_of};
 
 use xc_tree::FuncItem;
 
@@ -22,59 +22,59 @@ pub enum Holder {
 
 /// What stands around a statement.
 #[derive(Clone, Copy)]
-pub enum Around<'a> {
+pub enum Enclosing<'a> {
     /// It is directly in the block of this function.
     Block(&'a FuncItem),
     /// It is directly in this, around which stands that.
-    Inside(Holder, &'a Around<'a>),
+    Inside(Holder, &'a Enclosing<'a>),
 }
 
 /// The function that a statement stands in.
 #[tactic(auto, using(crate::proofs::Holders::arounds))]
-pub fn function_around<'a>(around: &Around<'a>) -> &'a FuncItem
+pub fn function_around<'a>(around: &Enclosing<'a>) -> &'a FuncItem
     ensures { head_of result.now ≡ (around_of around.now).function }
 {
     match around {
-        Around::Block(function) => function,
-        Around::Inside(_, outer) => function_around(outer),
+        Enclosing::Block(function) => function,
+        Enclosing::Inside(_, outer) => function_around(outer),
     }
 }
 
 /// Whether a `break` has a loop or case to leave, in the same branch and transaction.
 #[tactic(auto, using(crate::proofs::Holders::arounds))]
-pub fn has_way_out(around: &Around) -> bool
+pub fn has_way_out(around: &Enclosing) -> bool
     ensures { result ≡ shape.has_way_out (around_of around.now).holders }
 {
     match around {
-        Around::Block(_) => false,
-        Around::Inside(Holder::Loop | Holder::Case, _) => true,
-        Around::Inside(Holder::Transaction | Holder::Branch, _) => false,
-        Around::Inside(Holder::Block | Holder::If, outer) => has_way_out(outer),
+        Enclosing::Block(_) => false,
+        Enclosing::Inside(Holder::Loop | Holder::Case, _) => true,
+        Enclosing::Inside(Holder::Transaction | Holder::Branch, _) => false,
+        Enclosing::Inside(Holder::Block | Holder::If, outer) => has_way_out(outer),
     }
 }
 
 /// Whether a `continue` has a loop to go on with, in the same branch and transaction.
 #[tactic(auto, using(crate::proofs::Holders::arounds))]
-pub fn has_next_turn(around: &Around) -> bool
+pub fn has_next_turn(around: &Enclosing) -> bool
     ensures { result ≡ shape.has_next_turn (around_of around.now).holders }
 {
     match around {
-        Around::Block(_) => false,
-        Around::Inside(Holder::Loop, _) => true,
-        Around::Inside(Holder::Branch | Holder::Transaction, _) => false,
-        Around::Inside(Holder::Block | Holder::If | Holder::Case, outer) => has_next_turn(outer),
+        Enclosing::Block(_) => false,
+        Enclosing::Inside(Holder::Loop, _) => true,
+        Enclosing::Inside(Holder::Branch | Holder::Transaction, _) => false,
+        Enclosing::Inside(Holder::Block | Holder::If | Holder::Case, outer) => has_next_turn(outer),
     }
 }
 
 /// Whether there is a transaction around a statement.
 #[tactic(auto, using(crate::proofs::Holders::arounds))]
-pub fn in_transaction(around: &Around) -> bool
+pub fn in_transaction(around: &Enclosing) -> bool
     ensures { result ≡ shape.in_transaction (around_of around.now).holders }
 {
     match around {
-        Around::Block(_) => false,
-        Around::Inside(Holder::Transaction, _) => true,
-        Around::Inside(
+        Enclosing::Block(_) => false,
+        Enclosing::Inside(Holder::Transaction, _) => true,
+        Enclosing::Inside(
             Holder::Block | Holder::If | Holder::Loop | Holder::Case | Holder::Branch,
             outer,
         ) => in_transaction(outer),
@@ -83,13 +83,13 @@ pub fn in_transaction(around: &Around) -> bool
 
 /// Whether there is a `par` or a transaction around a statement.
 #[tactic(auto, using(crate::proofs::Holders::arounds))]
-pub fn in_par_or_transaction(around: &Around) -> bool
+pub fn in_par_or_transaction(around: &Enclosing) -> bool
     ensures { result ≡ shape.in_par_or_transaction (around_of around.now).holders }
 {
     match around {
-        Around::Block(_) => false,
-        Around::Inside(Holder::Branch | Holder::Transaction, _) => true,
-        Around::Inside(Holder::Block | Holder::If | Holder::Loop | Holder::Case, outer) => {
+        Enclosing::Block(_) => false,
+        Enclosing::Inside(Holder::Branch | Holder::Transaction, _) => true,
+        Enclosing::Inside(Holder::Block | Holder::If | Holder::Loop | Holder::Case, outer) => {
             in_par_or_transaction(outer)
         }
     }
@@ -104,11 +104,11 @@ pub fn is_main(function: &FuncItem) -> bool
 
 /// Whether a statement stands directly in the block of `main`.
 #[tactic(auto, using(crate::proofs::Holders::arounds))]
-pub fn directly_in_main(around: &Around) -> bool
+pub fn directly_in_main(around: &Enclosing) -> bool
     ensures { result ≡ shape.directly_in_main (around_of around.now) }
 {
     match around {
-        Around::Block(function) => is_main(function),
-        Around::Inside(_, _) => false,
+        Enclosing::Block(function) => is_main(function),
+        Enclosing::Inside(_, _) => false,
     }
 }

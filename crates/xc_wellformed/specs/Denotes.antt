@@ -51,33 +51,33 @@ IsTold (Some l) m = l ≡ m
 
 -- an instance of what is declared so, an array with its variable's words as its length, which is the
 -- declared one where one is told; H holds of each variable's path and J of each timer's
-pub data Stands (n : NamedProgram) (fs : List Function) (ps : List PortUse) (num : Numbering) (H J : Path → Type 0) (t : List ℕ) : Option What → Entity → Type 0 where
+pub data Denotes (n : NamedProgram) (fs : List Function) (ps : List PortUse) (num : Numbering) (H J : Path → Type 0) (t : List ℕ) : Option What → Entity → Type 0 where
   a_variable : {u : Bool} {path : Path} → HasVariable num H path false 1 →
-      Stands n fs ps num H J t (Some (what.Word u)) (a_word path u)
+      Denotes n fs ps num H J t (Some (what.Word u)) (a_word path u)
   whole_array : {u : Bool} {l : ℕ} {path : Path} → HasVariable num H path true l →
-      Stands n fs ps num H J t (Some (what.Array u l)) (an_array path l u)
+      Denotes n fs ps num H J t (Some (what.Array u l)) (an_array path l u)
   word_referred : {u : Bool} {path : Path} → HasVariable num H path false 1 →
-      Stands n fs ps num H J t (Some (what.Ref u)) (a_word path u)
+      Denotes n fs ps num H J t (Some (what.Ref u)) (a_word path u)
   element_referred : {u : Bool} {m : ℕ} {path index : Path} →
       HasVariable num H path true m → HasVariable num H index false 1 →
-      Stands n fs ps num H J t (Some (what.Ref u)) (an_element path index u)
+      Denotes n fs ps num H J t (Some (what.Ref u)) (an_element path index u)
   array_referred : {u : Bool} {l : Option ℕ} {m : ℕ} {path : Path} → IsTold l m → HasVariable num H path true m →
-      Stands n fs ps num H J t (Some (what.ArrayParam u l)) (an_array path m u)
+      Denotes n fs ps num H J t (Some (what.ArrayParam u l)) (an_array path m u)
   the_channel : {s : Bool} {path : Path} → HasChannel num path →
-      Stands n fs ps num H J t (Some (what.Chan s)) (a_channel path)
+      Denotes n fs ps num H J t (Some (what.Chan s)) (a_channel path)
   the_end : {s : Bool} {path : Path} → HasChannel num path →
-      Stands n fs ps num H J t (Some (what.End s)) (a_channel path)
+      Denotes n fs ps num H J t (Some (what.End s)) (a_channel path)
   the_timer : {path : Path} → HasTimer num J path →
-      Stands n fs ps num H J t (Some what.Timer) (a_timer path)
+      Denotes n fs ps num H J t (Some what.Timer) (a_timer path)
   the_port : {d : TreeDir} {number : ℕ} → HasPort ps number d →
-      Stands n fs ps num H J t (Some (what.Port d)) (a_port number)
+      Denotes n fs ps num H J t (Some (what.Port d)) (a_port number)
   port_given : {d : TreeDir} {number : ℕ} → HasPort ps number d →
-      Stands n fs ps num H J t (Some (what.PortParam d)) (a_port number)
-  the_index : {v : ℕ} → Stands n fs ps num H J t (Some what.Index) (a_constant v)
+      Denotes n fs ps num H J t (Some (what.PortParam d)) (a_port number)
+  the_index : {v : ℕ} → Denotes n fs ps num H J t (Some what.Index) (a_constant v)
   -- functions aren't among the names of the copy; one is found by its name among the functions
   the_function : {g : ℕ} → function_of n (Some (what.Func g)) ≡ option_map head_of (function_named fs t) →
-      Stands n fs ps num H J t (Some (what.Func g)) nothing_known
-  none_there : Stands n fs ps num H J t None nothing_known
+      Denotes n fs ps num H J t (Some (what.Func g)) nothing_known
+  none_there : Denotes n fs ps num H J t None nothing_known
 
 -- an instance is named by the place where it is declared, behind some path
 abbrev pub EndsAt : Path → Pos → Type 0
@@ -123,4 +123,4 @@ IsInstance ps (Some d) x = InstanceOf ps d.name.pos d.what x
 -- has for it
 abbrev pub Agrees : NamedProgram → List Function → List PortUse → Numbering → (H J : Path → Type 0) → Stack → Scope → Type 0
 Agrees n fs ps num H J st scope =
-    (t : List ℕ) → Stands n fs ps num H J t (what_of (found st t)) (entity_of scope t) × IsInstance ps (found st t) (entity_of scope t)
+    (t : List ℕ) → Denotes n fs ps num H J t (what_of (found st t)) (entity_of scope t) × IsInstance ps (found st t) (entity_of scope t)

@@ -1,20 +1,20 @@
 ghost use Rattle.std.specs.Prelude.{◌≡◌, [], ◌<◌, ◌≤◌, drop, length, IfOk, OnOk};
 ghost use Rattle.xc_tree.specs.Shapes.Rules.{are_one as one};
-ghost use Rattle.xc_types.specs.Findings.{one_more_name, with_type, with_type_at, with_broken, with_channel, with_first};
+ghost use Rattle.xc_types.specs.Checker.{one_more_name, with_type, with_type_at, with_broken, with_channel, with_first};
 
+use crate::counter::Counter;
 use crate::shapes::are_one;
-use crate::tally::Tally;
 use std::alloc::Global;
 use xc_tree::earlier;
 use xw_words::{Broken, List, Memory, Pos};
 
 /// What a walk has found of a program.
 #[derive(Drop)]
-pub struct Findings {
+pub struct Checker {
     /// Where memory is taken.
     pub alloc: Global,
     /// How many names were passed.
-    pub names: Tally,
+    pub names: Counter,
     /// For each node that was passed whether it is a word that is `unsigned`.
     pub types: List<bool>,
     /// The first of the broken rules.
@@ -23,17 +23,17 @@ pub struct Findings {
     pub channels: List<u32>,
 }
 
-impl Findings {
+impl Checker {
     /// Of nothing.
-    pub fn new(alloc: Global) -> Findings
+    pub fn new(alloc: Global) -> Checker
         ensures names { result.names ≡ 0 }
         ensures types { result.types ≡ [] }
         ensures best { result.best ≡ None }
         ensures channels { result.channels ≡ [] }
     {
-        Findings {
+        Checker {
             alloc,
-            names: Tally::new(alloc),
+            names: Counter::new(alloc),
             types: List::new(alloc),
             best: None,
             channels: List::new(alloc),
@@ -41,7 +41,7 @@ impl Findings {
     }
 
     /// Goes past a name.
-    #[tactic(auto, unfolding(crate::specs::Findings::one_more_name))]
+    #[tactic(auto, unfolding(crate::specs::Checker::one_more_name))]
     pub fn pass(&mut self) -> Result<(), Memory>
         ensures { OnOk result (self.new ≡ one_more_name self.old) }
     {
@@ -49,7 +49,7 @@ impl Findings {
     }
 
     /// Keeps a node's type, and gives the node's place among the nodes.
-    #[tactic(auto, unfolding(crate::specs::Findings::with_type))]
+    #[tactic(auto, unfolding(crate::specs::Checker::with_type))]
     pub fn add_type(&mut self, is_unsigned: bool) -> Result<usize, Memory>
         ensures found { OnOk result (self.new ≡ with_type is_unsigned self.old) }
         ensures place { IfOk result (λ place. place ≡ length self.old.types) }
@@ -60,7 +60,7 @@ impl Findings {
     }
 
     /// Changes the type of a node.
-    #[tactic(auto, unfolding(crate::specs::Findings::with_type_at))]
+    #[tactic(auto, unfolding(crate::specs::Checker::with_type_at))]
     pub fn set_type(&mut self, place: usize, is_unsigned: bool)
         requires { place < length self.old.types }
         ensures { self.new ≡ with_type_at place is_unsigned self.old }
@@ -69,7 +69,7 @@ impl Findings {
     }
 
     /// Keeps that a rule is broken, where it is.
-    #[tactic(auto, unfolding(crate::specs::Findings::with_broken))]
+    #[tactic(auto, unfolding(crate::specs::Checker::with_broken))]
     pub fn breaks_where(&mut self, is_broken: bool, rule: u16, pos: Pos)
         ensures { self.new ≡ with_broken is_broken rule pos self.old }
     {
@@ -79,7 +79,7 @@ impl Findings {
     }
 
     /// Keeps what a communication names, where that is a channel.
-    #[tactic(auto, unfolding(crate::specs::Findings::with_channel))]
+    #[tactic(auto, unfolding(crate::specs::Checker::with_channel))]
     pub fn names_channel(&mut self, is_channel: bool, declared: Option<u32>) -> Result<(), Memory>
         ensures { OnOk result (self.new ≡ with_channel is_channel declared self.old) }
     {
@@ -91,7 +91,7 @@ impl Findings {
     }
 
     /// Keeps one more broken rule, if there is one.
-    #[tactic(auto, unfolding(crate::specs::Findings::with_first))]
+    #[tactic(auto, unfolding(crate::specs::Checker::with_first))]
     pub fn breaks(&mut self, broken: Option<Broken>)
         ensures { self.new ≡ with_first broken self.old }
     {
