@@ -6,10 +6,10 @@ use Rattle.xs_instr.specs.declared.state.Events.{Events}
 use Rattle.xs_instr.specs.declared.state.Res.{Res}
 use Rattle.xs_instr.specs.declared.state.Res.TheVariants.{Port as ResPort, Timer as ResTimer, End as ResEnd}
 use Rattle.xs_instr.specs.Events.{vector_of, watch_of}
-use Rattle.xl_expr.specs.ResourceParts.{IsEnabledFor, OtherPartsStay, OwnPartsStay, Part, owner_in, part_of, port_alone, timer_alone}
+use Rattle.xl_expr.specs.ResourceParts.{IsEnabledFor, OtherPartsStay, OwnPartsStay, ResourceState, owner_in, resource_state, port_alone, timer_alone}
 
 -- where ports, timers and events are the same, each resource is
-pub part_same : (a b : CoreState) → b.ports ≡ a.ports → b.timers ≡ a.timers → b.events ≡ a.events → (res : Res) → part_of b res ≡ part_of a res
+pub part_same : (a b : CoreState) → b.ports ≡ a.ports → b.timers ≡ a.timers → b.events ≡ a.events → (res : Res) → resource_state b res ≡ resource_state a res
 part_same a b ports timers events (ResPort n) =
     ap (λ l. record { port = slice_get l n; timer = None; vector = vector_of b.events (ResPort n) }) ports
     ∙ ap (λ e. record { port = slice_get a.ports n; timer = None; vector = vector_of e (ResPort n) }) events
@@ -28,14 +28,14 @@ module _ (mine : Res → Type 0) (t : ℕ) (a b : CoreState) where
   others_same ports timers events = record {
     parts = λ res n. part_same a b ports timers events res;
     enabled = λ u res ne n h. enabled_same u a.events b.events res events h;
-    strangers = λ u res ne h. enabled_same u b.events a.events res (sym events) h;
+    no_more_enabled = λ u res ne h. enabled_same u b.events a.events res (sym events) h;
   }
 
   pub own_same : b.ports ≡ a.ports → b.timers ≡ a.timers → b.events ≡ a.events → OwnPartsStay mine t a b
   own_same ports timers events = record {
     parts = λ res m. part_same a b ports timers events res;
     enabled = λ res m h. enabled_same t a.events b.events res events h;
-    strangers = λ res h. enabled_same t b.events a.events res (sym events) h;
+    no_more_enabled = λ res h. enabled_same t b.events a.events res (sym events) h;
   }
 
   -- what is left of all but fewer is left of all but more
@@ -43,7 +43,7 @@ module _ (mine : Res → Type 0) (t : ℕ) (a b : CoreState) where
   others_fewer more within h = record {
     parts = λ res n. h.parts res (λ m. n (within res m));
     enabled = λ u res ne n e. h.enabled u res ne (λ m. n (within res m)) e;
-    strangers = h.strangers;
+    no_more_enabled = h.no_more_enabled;
   }
 
   -- what is kept of more is kept of fewer
@@ -51,7 +51,7 @@ module _ (mine : Res → Type 0) (t : ℕ) (a b : CoreState) where
   own_fewer fewer within h = record {
     parts = λ res m. h.parts res (within res m);
     enabled = λ res m e. h.enabled res (within res m) e;
-    strangers = h.strangers;
+    no_more_enabled = h.no_more_enabled;
   }
 
 -- one after the other
@@ -59,7 +59,7 @@ pub own_then : (mine : Res → Type 0) (t : ℕ) (a b c : CoreState) → OwnPart
 own_then mine t a b c h k = record {
   parts = λ res m. k.parts res m ∙ h.parts res m;
   enabled = λ res m e. k.enabled res m (h.enabled res m e);
-  strangers = λ res e. h.strangers res (k.strangers res e);
+  no_more_enabled = λ res e. h.no_more_enabled res (k.no_more_enabled res e);
 }
 
 -- what a step of one thread leaves is what another one relies on, where they have no resource both
@@ -67,26 +67,26 @@ pub others_keep : (mine theirs : Res → Type 0) (t u : ℕ) (a b : CoreState) �
 others_keep mine theirs t u a b ne apart h = record {
   parts = λ res m. h.parts res (apart res m);
   enabled = λ res m e. h.enabled u res ne (apart res m) e;
-  strangers = λ res e. h.strangers u res ne e;
+  no_more_enabled = λ res e. h.no_more_enabled u res ne e;
 }
 
 -- a port is as its part is
-pub port_same : (a b : CoreState) (p : ℕ) → part_of b (ResPort p) ≡ part_of a (ResPort p) → slice_get b.ports p ≡ slice_get a.ports p
-port_same a b p same = ap (λ (x : Part). x.port) same
+pub port_same : (a b : CoreState) (p : ℕ) → resource_state b (ResPort p) ≡ resource_state a (ResPort p) → slice_get b.ports p ≡ slice_get a.ports p
+port_same a b p same = ap (λ (x : ResourceState). x.port) same
 
 -- and so is a timer
-pub timer_same : (a b : CoreState) (n : ℕ) → part_of b (ResTimer n) ≡ part_of a (ResTimer n) → slice_get b.timers n ≡ slice_get a.timers n
-timer_same a b n same = ap (λ (x : Part). x.timer) same
+pub timer_same : (a b : CoreState) (n : ℕ) → resource_state b (ResTimer n) ≡ resource_state a (ResTimer n) → slice_get b.timers n ≡ slice_get a.timers n
+timer_same a b n same = ap (λ (x : ResourceState). x.timer) same
 
 -- a step that sets one port alone
 pub others_of_port : (t p : ℕ) (a b : CoreState) → ((q : ℕ) → (q ≡ p → ⊥) → slice_get b.ports q ≡ slice_get a.ports q) → b.timers ≡ a.timers → b.events ≡ a.events → OtherPartsStay (port_alone p) t a b
 others_of_port t p a b others timers events = record {
   parts = by;
   enabled = λ u res ne n h. enabled_same u a.events b.events res events h;
-  strangers = λ u res ne h. enabled_same u b.events a.events res (sym events) h;
+  no_more_enabled = λ u res ne h. enabled_same u b.events a.events res (sym events) h;
 }
   where
-    by : (res : Res) → (port_alone p res → ⊥) → part_of b res ≡ part_of a res
+    by : (res : Res) → (port_alone p res → ⊥) → resource_state b res ≡ resource_state a res
     by (ResPort q) n =
         ap (λ o. record { port = o; timer = None; vector = vector_of b.events (ResPort q) }) (others q (λ e. n (ap ResPort e)))
         ∙ ap (λ e. record { port = slice_get a.ports q; timer = None; vector = vector_of e (ResPort q) }) events
@@ -100,10 +100,10 @@ pub others_of_timer : (t n : ℕ) (a b : CoreState) → ((m : ℕ) → (m ≡ n 
 others_of_timer t n a b others ports events = record {
   parts = by;
   enabled = λ u res ne m h. enabled_same u a.events b.events res events h;
-  strangers = λ u res ne h. enabled_same u b.events a.events res (sym events) h;
+  no_more_enabled = λ u res ne h. enabled_same u b.events a.events res (sym events) h;
 }
   where
-    by : (res : Res) → (timer_alone n res → ⊥) → part_of b res ≡ part_of a res
+    by : (res : Res) → (timer_alone n res → ⊥) → resource_state b res ≡ resource_state a res
     by (ResTimer m) ne =
         ap (λ o. record { port = None; timer = o; vector = vector_of b.events (ResTimer m) }) (others m (λ e. ne (ap ResTimer e)))
         ∙ ap (λ e. record { port = None; timer = slice_get a.timers m; vector = vector_of e (ResTimer m) }) events

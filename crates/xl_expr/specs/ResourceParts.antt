@@ -11,15 +11,15 @@ use Rattle.xs_instr.specs.declared.state.Watch.{Watch}
 use Rattle.xs_instr.specs.Events.{vector_of, watch_of}
 
 -- of a channel end the vector alone
-pub record Part : Type 0 where
+pub record ResourceState : Type 0 where
   pub port : Option Port
   pub timer : Option Timer
   pub vector : ℕ
 
-abbrev pub part_of : CoreState → Res → Part
-part_of core (ResPort n) = record { port = slice_get core.ports n; timer = None; vector = vector_of core.events (ResPort n) }
-part_of core (ResTimer n) = record { port = None; timer = slice_get core.timers n; vector = vector_of core.events (ResTimer n) }
-part_of core (ResEnd n) = record { port = None; timer = None; vector = vector_of core.events (ResEnd n) }
+abbrev pub resource_state : CoreState → Res → ResourceState
+resource_state core (ResPort n) = record { port = slice_get core.ports n; timer = None; vector = vector_of core.events (ResPort n) }
+resource_state core (ResTimer n) = record { port = None; timer = slice_get core.timers n; vector = vector_of core.events (ResTimer n) }
+resource_state core (ResEnd n) = record { port = None; timer = None; vector = vector_of core.events (ResEnd n) }
 
 -- `IsEnabledFor`, by cases
 abbrev pub owner_in : Option Watch → Option ℕ
@@ -41,12 +41,12 @@ timer_alone n res = res ≡ ResTimer n
 module _ (mine : Res → Type 0) (t : ℕ) where
   -- The rely of thread t: its own resources are as they were, and enabled for it as before; and nothing more is enabled for it.
   pub record OwnPartsStay (a b : CoreState) : Type 0 where
-    pub parts : (res : Res) → mine res → part_of b res ≡ part_of a res
+    pub parts : (res : Res) → mine res → resource_state b res ≡ resource_state a res
     pub enabled : (res : Res) → mine res → IsEnabledFor t a.events res → IsEnabledFor t b.events res
-    pub strangers : (res : Res) → IsEnabledFor t b.events res → IsEnabledFor t a.events res
+    pub no_more_enabled : (res : Res) → IsEnabledFor t b.events res → IsEnabledFor t a.events res
 
   -- The guarantee of its steps: all other resources are as they were, and enabled as before for others; and nothing more is enabled for another thread.
   pub record OtherPartsStay (a b : CoreState) : Type 0 where
-    pub parts : (res : Res) → (mine res → ⊥) → part_of b res ≡ part_of a res
+    pub parts : (res : Res) → (mine res → ⊥) → resource_state b res ≡ resource_state a res
     pub enabled : (u : ℕ) (res : Res) → u ≢ t → (mine res → ⊥) → IsEnabledFor u a.events res → IsEnabledFor u b.events res
-    pub strangers : (u : ℕ) (res : Res) → u ≢ t → IsEnabledFor u b.events res → IsEnabledFor u a.events res
+    pub no_more_enabled : (u : ℕ) (res : Res) → u ≢ t → IsEnabledFor u b.events res → IsEnabledFor u a.events res

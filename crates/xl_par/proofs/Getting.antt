@@ -22,7 +22,7 @@ use Rattle.xs_instr.specs.Rows.{gets_with, goes_on, goes_with, local_row, put_lo
 use Rattle.xs_instr.specs.Slot.{is_waiteu, slot}
 use Rattle.xl_expr.proofs.Lists.{get_set_other, get_set_same}
 use Rattle.xl_expr.proofs.Ways.{IsPlain, at_pc, own, turn_row}
-use Rattle.xl_par.specs.Hands.{Hand, IsAmong, KeptHand, WithinHand, gets_thread, own_only, prepares, with_thread_got}
+use Rattle.xl_par.specs.Acquired.{Acquired, IsAmong, KeepsAcquired, WithinAcquiring, gets_thread, own_only, prepares, with_thread_got}
 use Rattle.xl_par.specs.Opening.{AreReady, HoldsSyncs, preparing_instrs, ready_thread, stack_offset}
 use Rattle.xl_par.proofs.Moves.{everywhere}
 use Rattle.xl_par.proofs.Names.{sync_named, thread_named}
@@ -91,13 +91,13 @@ module _ (home : Home) (relied : ℕ → Bool) (t : ℕ) (thread : Thread) (runn
     pub tied : (v : ℕ) (y : Thread) → (v ≡ t → ⊥) → slice_get b.threads v ≡ Some y → is_tied y n ≡ true → IsAmong threads v
 
   -- all that were got are ready
-  pub record Got (hand : Hand) (starts : List ℕ) (pc : ℕ) (regs : Regs) (b : CoreState) : Type 0 where
+  pub record Got (hand : Acquired) (starts : List ℕ) (pc : ℕ) (regs : Regs) (b : CoreState) : Type 0 where
     pub sync_is : hand.sync ≡ Some n
     pub common : Common hand.threads pc regs b
     pub ready : Ready hand.threads starts b
 
   -- the thread that was got last is x
-  pub record Half (hand : Hand) (starts : List ℕ) (u : ℕ) (x : Thread) (pc : ℕ) (regs : Regs) (b : CoreState) : Type 0 where
+  pub record Half (hand : Acquired) (starts : List ℕ) (u : ℕ) (x : Thread) (pc : ℕ) (regs : Regs) (b : CoreState) : Type 0 where
     pub sync_is : hand.sync ≡ Some n
     pub common : Common (u ∷ hand.threads) pc regs b
     pub ready : Ready hand.threads starts b
@@ -117,7 +117,7 @@ module _ (home : Home) (relied : ℕ → Bool) (t : ℕ) (thread : Thread) (runn
 
   -- what others do leaves it
 
-  common_kept : (hand : Hand) (pc : ℕ) (regs : Regs) (a b : CoreState) → hand.sync ≡ Some n → KeptHand relied t hand a b → Common hand.threads pc regs a → Common hand.threads pc regs b
+  common_kept : (hand : Acquired) (pc : ℕ) (regs : Regs) (a b : CoreState) → hand.sync ≡ Some n → KeepsAcquired relied t hand a b → Common hand.threads pc regs a → Common hand.threads pc regs b
   common_kept hand pc regs a b is k h = record {
     here = k.own.thread ∙ h.here;
     registers = h.registers;
@@ -127,14 +127,14 @@ module _ (home : Home) (relied : ℕ → Bool) (t : ℕ) (thread : Thread) (runn
     tied = λ v y ne there tied. h.tied v y ne (k.tied n v y is there tied) tied;
   }
 
-  pub got_kept : (hand : Hand) (starts : List ℕ) (pc : ℕ) (regs : Regs) (a b : CoreState) → KeptHand relied t hand a b → Got hand starts pc regs a → Got hand starts pc regs b
+  pub got_kept : (hand : Acquired) (starts : List ℕ) (pc : ℕ) (regs : Regs) (a b : CoreState) → KeepsAcquired relied t hand a b → Got hand starts pc regs a → Got hand starts pc regs b
   got_kept hand starts pc regs a b k h = record {
     sync_is = h.sync_is;
     common = common_kept hand pc regs a b h.sync_is k h.common;
     ready = ready_still a b hand.threads starts (λ v m ne. k.held v m) h.ready;
   }
 
-  half_kept : (hand : Hand) (starts : List ℕ) (u : ℕ) (x : Thread) (pc : ℕ) (regs : Regs) (a b : CoreState) → KeptHand relied t (with_thread_got hand u) a b → Half hand starts u x pc regs a → Half hand starts u x pc regs b
+  half_kept : (hand : Acquired) (starts : List ℕ) (u : ℕ) (x : Thread) (pc : ℕ) (regs : Regs) (a b : CoreState) → KeepsAcquired relied t (with_thread_got hand u) a b → Half hand starts u x pc regs a → Half hand starts u x pc regs b
   half_kept hand starts u x pc regs a b k h = record {
     sync_is = h.sync_is;
     common = common_kept (with_thread_got hand u) pc regs a b h.sync_is k h.common;
@@ -147,12 +147,12 @@ module _ (home : Home) (relied : ℕ → Bool) (t : ℕ) (thread : Thread) (runn
     waits = h.waits;
   }
 
-  module _ (Q : Hand → CoreState → Type 0) (hand : Hand) (starts : List ℕ) (u : ℕ) where
-    abbrev hand1 : Hand
+  module _ (Q : Acquired → CoreState → Type 0) (hand : Acquired) (starts : List ℕ) (u : ℕ) where
+    abbrev hand1 : Acquired
     hand1 = with_thread_got hand u
 
     -- a step that prepares that thread
-    half_prepares : (x : Thread) (change : Thread → Thread) (pc k : ℕ) (regs : Regs) (i : Instr) → slice_get home.parts.code.instrs pc ≡ Some i → is_waiteu (Some i) ≡ false → (change x).mode ≡ Waiting → (change x).tie ≡ x.tie → (change x).event_bit ≡ x.event_bit → ((b : CoreState) → row home b t (th pc regs) i ≡ map_did (goes_with put_threads b t (th pc regs)) (on_thread b (prepared change b.threads) (named home.number regs.r0))) → ((d : CoreState) → Half hand starts u (change x) (pc + 1) regs d → WithinHand home relied t Q k hand1 d) → (a : CoreState) → Half hand starts u x pc regs a → WithinHand home relied t Q (suc k) hand1 a
+    half_prepares : (x : Thread) (change : Thread → Thread) (pc k : ℕ) (regs : Regs) (i : Instr) → slice_get home.parts.code.instrs pc ≡ Some i → is_waiteu (Some i) ≡ false → (change x).mode ≡ Waiting → (change x).tie ≡ x.tie → (change x).event_bit ≡ x.event_bit → ((b : CoreState) → row home b t (th pc regs) i ≡ map_did (goes_with put_threads b t (th pc regs)) (on_thread b (prepared change b.threads) (named home.number regs.r0))) → ((d : CoreState) → Half hand starts u (change x) (pc + 1) regs d → WithinAcquiring home relied t Q k hand1 d) → (a : CoreState) → Half hand starts u x pc regs a → WithinAcquiring home relied t Q (suc k) hand1 a
     half_prepares x change pc k regs i stands no_event still_waits still_tied same_bit is_row next a h = inr (λ b kept.
         let hb = half_kept hand starts u x pc regs a b kept h in
         let before = th pc regs in
@@ -202,7 +202,7 @@ module _ (home : Home) (relied : ℕ → Bool) (t : ℕ) (thread : Thread) (runn
         ))
 
     -- a step that changes registers alone
-    half_steps : (x : Thread) (pc k : ℕ) (regs : Regs) (v : ℕ) (i : Instr) → slice_get home.parts.code.instrs pc ≡ Some i → IsPlain i → ((ws : List ℕ) → local_row (own pc regs ws) i ≡ makes (own (pc + 1) (reg_set regs R11 v) ws)) → ((d : CoreState) → Half hand starts u x (pc + 1) (reg_set regs R11 v) d → WithinHand home relied t Q k hand1 d) → (a : CoreState) → Half hand starts u x pc regs a → WithinHand home relied t Q (suc k) hand1 a
+    half_steps : (x : Thread) (pc k : ℕ) (regs : Regs) (v : ℕ) (i : Instr) → slice_get home.parts.code.instrs pc ≡ Some i → IsPlain i → ((ws : List ℕ) → local_row (own pc regs ws) i ≡ makes (own (pc + 1) (reg_set regs R11 v) ws)) → ((d : CoreState) → Half hand starts u x (pc + 1) (reg_set regs R11 v) d → WithinAcquiring home relied t Q k hand1 d) → (a : CoreState) → Half hand starts u x pc regs a → WithinAcquiring home relied t Q (suc k) hand1 a
     half_steps x pc k regs v i stands plain is_row next a h = inr (λ b kept.
         let hb = half_kept hand starts u x pc regs a b kept h in
         let regs' = reg_set regs R11 v in
@@ -251,9 +251,9 @@ module _ (home : Home) (relied : ℕ → Bool) (t : ℕ) (thread : Thread) (runn
       (λ (more : IsAmong vs u). not_ready a vs ss u x there unused h.1 more)
       m
 
-  module _ (Q : Hand → CoreState → Type 0) (hand : Hand) (starts : List ℕ) where
+  module _ (Q : Acquired → CoreState → Type 0) (hand : Acquired) (starts : List ℕ) where
     -- a thread is got
-    thread_got_leads : (pc k : ℕ) (regs : Regs) → slice_get home.parts.code.instrs pc ≡ Some (Getst R0 R1) → 1 ≤ hand.lacks → ((u : ℕ) (x : Thread) → x.event_bit ≡ false → (d : CoreState) → Half hand starts u (tied_to n x) (pc + 1) (reg_set regs R0 (thread_name home.number u)) d → WithinHand home relied t Q k (with_thread_got hand u) d) → (a : CoreState) → Got hand starts pc regs a → WithinHand home relied t Q (suc k) hand a
+    thread_got_leads : (pc k : ℕ) (regs : Regs) → slice_get home.parts.code.instrs pc ≡ Some (Getst R0 R1) → 1 ≤ hand.lacks → ((u : ℕ) (x : Thread) → x.event_bit ≡ false → (d : CoreState) → Half hand starts u (tied_to n x) (pc + 1) (reg_set regs R0 (thread_name home.number u)) d → WithinAcquiring home relied t Q k (with_thread_got hand u) d) → (a : CoreState) → Got hand starts pc regs a → WithinAcquiring home relied t Q (suc k) hand a
     thread_got_leads pc k regs stands least next a h = inr (λ b kept.
         let gb = got_kept hand starts pc regs a b kept h in
         let spare = kept.spare in
@@ -329,7 +329,7 @@ module _ (home : Home) (relied : ℕ → Bool) (t : ℕ) (thread : Thread) (runn
         }
 
     -- all seven steps for one thread
-    pub slave_leads : (start pc k : ℕ) (regs : Regs) (pos : Pos) (more : List Line) → StandAt home.parts.code pc (line (Getst R0 R1) pos ∷ (line (Tinitpc R0 start) pos ∷ (at_pos pos (preparing_instrs (stack_offset stacks)) ++ more))) → 1 ≤ hand.lacks → ((u : ℕ) (regs' : Regs) (d : CoreState) → Got (with_thread_got hand u) (start ∷ starts) (pc + 1 + 1 + 1 + 1 + 1 + 1 + 1) regs' d → WithinHand home relied t Q k (with_thread_got hand u) d) → (a : CoreState) → Got hand starts pc regs a → WithinHand home relied t Q (suc (suc (suc (suc (suc (suc (suc k))))))) hand a
+    pub slave_leads : (start pc k : ℕ) (regs : Regs) (pos : Pos) (more : List Line) → StandAt home.parts.code pc (line (Getst R0 R1) pos ∷ (line (Tinitpc R0 start) pos ∷ (at_pos pos (preparing_instrs (stack_offset stacks)) ++ more))) → 1 ≤ hand.lacks → ((u : ℕ) (regs' : Regs) (d : CoreState) → Got (with_thread_got hand u) (start ∷ starts) (pc + 1 + 1 + 1 + 1 + 1 + 1 + 1) regs' d → WithinAcquiring home relied t Q k (with_thread_got hand u) d) → (a : CoreState) → Got hand starts pc regs a → WithinAcquiring home relied t Q (suc (suc (suc (suc (suc (suc (suc k))))))) hand a
     slave_leads start pc k regs pos more st least next a h =
         thread_got_leads pc (suc (suc (suc (suc (suc (suc k)))))) regs st.0 least (λ u x bit d1 h1.
         let offset = stack_offset stacks in

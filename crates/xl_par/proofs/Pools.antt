@@ -5,7 +5,7 @@ use Rattle.xs_instr.specs.declared.state.Mode.{Mode}
 use Rattle.xs_instr.specs.declared.state.Mode.TheVariants.{Unused, Waiting, Running, Trapped}
 use Rattle.xs_instr.specs.declared.state.Thread.{Thread}
 use Rattle.xs_instr.specs.Pool.{all_wait, first_free, is_tied, is_unused, is_waiting, threads_taken}
-use Rattle.xl_par.specs.Hands.{one_if, unused_in}
+use Rattle.xl_par.specs.Acquired.{one_if, unused_in}
 
 -- where one is free, there is a first free one
 pub record FirstFree (taken : List Bool) (from : ℕ) : Type 0 where

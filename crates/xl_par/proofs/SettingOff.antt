@@ -21,7 +21,7 @@ use Rattle.xs_instr.specs.Resources.{ASync, named, on_sync, sync_name, where_tak
 use Rattle.xs_instr.specs.Rows.{gets_with, goes_on, goes_with, put_syncs, put_threads}
 use Rattle.xl_expr.proofs.Lists.{get_set_other, get_set_same}
 use Rattle.xl_expr.proofs.Ways.{Fits, Way, at_pc, fits_kept, own, turn_row, way_leads}
-use Rattle.xl_par.specs.Hands.{Hand, IsAmong, KeptHand, WithinHand, empty_hand, gets_sync, own_only, with_sync, with_thread_got}
+use Rattle.xl_par.specs.Acquired.{Acquired, IsAmong, KeepsAcquired, WithinAcquiring, nothing_acquired, gets_sync, own_only, with_sync, with_thread_got}
 use Rattle.xl_par.specs.Opening.{AreReady, Opens, SetsOff, filled, is_opening, opening_lines, ready_thread, slaves_lines, stack_offset, turned}
 use Rattle.xl_par.proofs.Getting.{Got, Registers, got_kept, slave_leads, turn}
 use Rattle.xl_par.proofs.Listed.{opening_length}
@@ -29,8 +29,8 @@ use Rattle.xl_par.proofs.Moves.{by_or, by_regs, everywhere, fits_there}
 use Rattle.xl_par.proofs.Names.{sync_named}
 use Rattle.xl_par.proofs.Pools.{all_waiting, free_one}
 
-module _ (home : Home) (relied : ℕ → Bool) (t : ℕ) (Q : Hand → CoreState → Type 0) where
-  hand_more : (m n : ℕ) → m ≤ n → (hand : Hand) (a : CoreState) → WithinHand home relied t Q m hand a → WithinHand home relied t Q n hand a
+module _ (home : Home) (relied : ℕ → Bool) (t : ℕ) (Q : Acquired → CoreState → Type 0) where
+  hand_more : (m n : ℕ) → m ≤ n → (hand : Acquired) (a : CoreState) → WithinAcquiring home relied t Q m hand a → WithinAcquiring home relied t Q n hand a
   hand_more zero zero le hand a h = h
   hand_more zero (suc n) le hand a h = inl h
   hand_more (suc m) zero le hand a h = absurd (omega arith)
@@ -38,26 +38,26 @@ module _ (home : Home) (relied : ℕ → Bool) (t : ℕ) (Q : Hand → CoreState
   hand_more (suc m) (suc n) le hand a (inr h) = inr (λ b k. let x = h b k in (x.0, x.1, x.2, hand_more m n (omega arith) x.0 x.1 x.3))
 
   -- steps that change registers alone, and then others
-  pub own_then : (P : CoreState → Type 0) (m k : ℕ) (hand : Hand) (a : CoreState) → Within home relied everywhere t P m a → ((b : CoreState) → P b → WithinHand home relied t Q k hand b) → WithinHand home relied t Q (m + k) hand a
+  pub own_then : (P : CoreState → Type 0) (m k : ℕ) (hand : Acquired) (a : CoreState) → Within home relied everywhere t P m a → ((b : CoreState) → P b → WithinAcquiring home relied t Q k hand b) → WithinAcquiring home relied t Q (m + k) hand a
   own_then P zero k hand a h next = hand_more k (0 + k) (omega arith) hand a (next a h)
   own_then P (suc m) k hand a (inl h) next = hand_more k (suc m + k) (omega arith) hand a (next a h)
   own_then P (suc m) k hand a (inr h) next =
       let e : suc (m + k) ≡ suc m + k = omega arith in
-      let all : WithinHand home relied t Q (suc (m + k)) hand a = inr (λ b s.
+      let all : WithinAcquiring home relied t Q (suc (m + k)) hand a = inr (λ b s.
       let x = h b s.own in (
         hand,
         x.0,
         record { thread = x.1.thread; here = x.1.here; made = x.1.made; change = own_only x.1.after (λ w. x.1.words w tt) x.1.left refl },
         own_then P m k hand x.0 x.2 next,
       )) in
-      subst (λ i. WithinHand home relied t Q i hand a) e all
+      subst (λ i. WithinAcquiring home relied t Q i hand a) e all
 
 module _ (home : Home) (relied : ℕ → Bool) (t : ℕ) (thread : Thread) (running : thread.mode ≡ Running) (quiet : thread.event_bit ≡ false) (stacks : ℕ) (few_cores : home.number < 4) (inside : stacks ≤ 16384) (starts : List ℕ) (pos : Pos) (end : ℕ) (old : List ℕ) where
-  abbrev Q : Hand → CoreState → Type 0
-  Q hand b = (c : CoreState) → KeptHand relied t hand b c → SetsOff home relied stacks t thread old starts pos end hand c
+  abbrev Q : Acquired → CoreState → Type 0
+  Q hand b = (c : CoreState) → KeepsAcquired relied t hand b c → SetsOff home relied stacks t thread old starts pos end hand c
 
   module _ (n : ℕ) (few : n < 8) where
-    abbrev GotHere : Hand → List ℕ → ℕ → Regs → CoreState → Type 0
+    abbrev GotHere : Acquired → List ℕ → ℕ → Regs → CoreState → Type 0
     GotHere = Got home relied t thread running quiet stacks n few_cores inside few old
 
     -- each that is ready waits
@@ -83,7 +83,7 @@ module _ (home : Home) (relied : ℕ → Bool) (t : ℕ) (thread : Thread) (runn
     others_stay regs h other e = cc
 
     -- all are ready, and the next step sets them off
-    sets_off : (hand : Hand) (pc : ℕ) (regs : Regs) → pc + 1 ≡ end → hand.lacks ≡ 0 → slice_get home.parts.code.instrs pc ≡ Some (Msync R1) → slice_get home.parts.code.«at» pc ≡ Some pos → (a : CoreState) → GotHere hand (turned starts []) pc regs a → Q hand a
+    sets_off : (hand : Acquired) (pc : ℕ) (regs : Regs) → pc + 1 ≡ end → hand.lacks ≡ 0 → slice_get home.parts.code.instrs pc ≡ Some (Msync R1) → slice_get home.parts.code.«at» pc ≡ Some pos → (a : CoreState) → GotHere hand (turned starts []) pc regs a → Q hand a
     sets_off hand pc regs next no_lack stands place a h = λ b kept.
         let gb = got_kept home relied t thread running quiet stacks n few_cores inside few old hand (turned starts []) pc regs a b kept h in
         let before = at_pc thread pc regs in
@@ -123,7 +123,7 @@ module _ (home : Home) (relied : ℕ → Bool) (t : ℕ) (thread : Thread) (runn
         }
 
     -- threads are got for the starts that are left
-    slaves_lead : (left done : List ℕ) (hand : Hand) (pc : ℕ) (regs : Regs) → turned left done ≡ turned starts [] → hand.lacks ≡ length left → pc + 7 * length left + 1 ≡ end → StandAt home.parts.code pc (filled (slaves_lines (stack_offset stacks) pos (length left) ++ line (Msync R1) pos ∷ []) left) → (a : CoreState) → GotHere hand done pc regs a → WithinHand home relied t Q (7 * length left) hand a
+    slaves_lead : (left done : List ℕ) (hand : Acquired) (pc : ℕ) (regs : Regs) → turned left done ≡ turned starts [] → hand.lacks ≡ length left → pc + 7 * length left + 1 ≡ end → StandAt home.parts.code pc (filled (slaves_lines (stack_offset stacks) pos (length left) ++ line (Msync R1) pos ∷ []) left) → (a : CoreState) → GotHere hand done pc regs a → WithinAcquiring home relied t Q (7 * length left) hand a
     slaves_lead [] done hand pc regs order lacks ends st a h =
         sets_off hand pc regs (omega (arith, ends)) lacks st.0 st.1 a (subst (λ d. GotHere hand d pc regs a) order h)
     slaves_lead (start ∷ left) done hand pc regs order lacks ends st a h =
@@ -132,10 +132,10 @@ module _ (home : Home) (relied : ℕ → Bool) (t : ℕ) (thread : Thread) (runn
         let more = filled (slaves_lines (stack_offset stacks) pos (length left) ++ line (Msync R1) pos ∷ []) left in
         let all = slave_leads home relied t thread running quiet stacks n few_cores inside few old Q hand done start pc k regs pos more st (omega (arith, lacks))
         (λ u regs' d g. slaves_lead left (start ∷ done) (with_thread_got hand u) (pc + 1 + 1 + 1 + 1 + 1 + 1 + 1) regs' order (omega (arith, lacks)) (omega (arith, ends)) st.2.2.2.2.2.2.2 d g) a h in
-        subst (λ i. WithinHand home relied t Q i hand a) e all
+        subst (λ i. WithinAcquiring home relied t Q i hand a) e all
 
   -- a synchroniser is got
-  sync_leads : (slaves pc : ℕ) (regs : Regs) → length starts ≡ slaves → pc + 1 + 7 * slaves + 1 ≡ end → regs ≡ record thread.regs { r2 = thread.regs.r1; r3 = thread.regs.r2; r4 = thread.regs.r3; r5 = thread.regs.r4; r6 = thread.regs.r5; r7 = thread.regs.r6; r8 = 8; r9 = 5 } → StandAt home.parts.code pc (line (Getr R1 GetSync) pos ∷ filled (slaves_lines (stack_offset stacks) pos slaves ++ line (Msync R1) pos ∷ []) starts) → (a : CoreState) → Fits home.parts.code relied everywhere t thread (own pc regs old) a → WithinHand home relied t Q (suc (7 * slaves)) (empty_hand slaves) a
+  sync_leads : (slaves pc : ℕ) (regs : Regs) → length starts ≡ slaves → pc + 1 + 7 * slaves + 1 ≡ end → regs ≡ record thread.regs { r2 = thread.regs.r1; r3 = thread.regs.r2; r4 = thread.regs.r3; r5 = thread.regs.r4; r6 = thread.regs.r5; r7 = thread.regs.r6; r8 = 8; r9 = 5 } → StandAt home.parts.code pc (line (Getr R1 GetSync) pos ∷ filled (slaves_lines (stack_offset stacks) pos slaves ++ line (Msync R1) pos ∷ []) starts) → (a : CoreState) → Fits home.parts.code relied everywhere t thread (own pc regs old) a → WithinAcquiring home relied t Q (suc (7 * slaves)) (nothing_acquired slaves) a
   sync_leads slaves pc regs count ends regs_are st a f = inr (λ b kept.
       let fb = fits_kept home.parts.code relied everywhere t thread (own pc regs old) a b f kept.own in
       let free = kept.spare.sync refl in
@@ -146,7 +146,7 @@ module _ (home : Home) (relied : ℕ → Bool) (t : ℕ) (thread : Thread) (runn
       let before = at_pc thread pc regs in
       let regs' = reg_set regs R1 (sync_name home.number n) in
       let behind = at_pc thread (pc + 1) regs' in
-      let hand = empty_hand slaves in
+      let hand = nothing_acquired slaves in
       let d : CoreState = goes_on (put_syncs b (slice_set b.syncs n true)) t before regs' in
       let got : Got home relied t thread running quiet stacks n few_cores inside few old (with_sync hand n) [] (pc + 1) regs' d = record {
         sync_is = refl;
@@ -190,7 +190,7 @@ module _ (home : Home) (relied : ℕ → Bool) (t : ℕ) (thread : Thread) (runn
               ∙ ap (λ o. makes (gets_with put_syncs b t before R1 (sync_got home.number b.syncs o))) is_first;
           change = gets_sync n regs' refl is_first refl refl;
         },
-        subst (λ k. WithinHand home relied t Q (7 * k) (with_sync hand n) d) count
+        subst (λ k. WithinAcquiring home relied t Q (7 * k) (with_sync hand n) d) count
             (slaves_lead n few starts [] (with_sync hand n) (pc + 1) regs' refl (sym count) (omega (arith, ends, count))
             (subst (λ k. StandAt home.parts.code (pc + 1) (filled (slaves_lines (stack_offset stacks) pos k ++ line (Msync R1) pos ∷ []) starts)) (sym count) st.2) d got),
       ))
@@ -246,11 +246,11 @@ opening_opens stacks slaves pos pc inside = record {
           ),
         ),
       ) in
-      let Q' : Hand → CoreState → Type 0 = λ hand b. (c : CoreState) → KeptHand relied t hand b c → SetsOff home relied stacks t thread ws starts pos end hand c in
+      let Q' : Acquired → CoreState → Type 0 = λ hand b. (c : CoreState) → KeepsAcquired relied t hand b c → SetsOff home relied stacks t thread ws starts pos end hand c in
       let ends : index + 1 + 7 * slaves + 1 ≡ end = omega (arith, opening_length stacks pos slaves) in
-      let all = own_then home relied t Q' there 8 (suc (7 * slaves)) (empty_hand slaves) a
+      let all = own_then home relied t Q' there 8 (suc (7 * slaves)) (nothing_acquired slaves) a
       (way_leads code relied everywhere home t thread at_work.runs at_work.no_events refl there 8 8 (own pc s ws) (own index s8 ws) (omega arith) way (λ b h. h) a (fits_there code relied t pc thread a at_work))
       (λ b h. sync_leads home relied t thread at_work.runs at_work.no_events stacks few_cores inside starts pos end ws slaves index s8 count ends refl st.2.2.2.2.2.2.2.2 b h) in
       let steps : 8 + suc (7 * slaves) ≡ 7 * slaves + 9 = omega arith in
-      subst (λ k. WithinHand home relied t Q' k (empty_hand slaves) a) steps all;
+      subst (λ k. WithinAcquiring home relied t Q' k (nothing_acquired slaves) a) steps all;
 }

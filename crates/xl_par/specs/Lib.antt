@@ -1,4 +1,4 @@
 pub mod Roots
-pub mod Hands
+pub mod Acquired
 pub mod Opening
 pub mod Closing

@@ -21,7 +21,7 @@ use Rattle.xs_instr.specs.Rows.{goes_on, put_threads}
 use Rattle.xs_instr.specs.Slot.{slot}
 use Rattle.xs_instr.specs.declared.emitter.Hole.{Hole}
 use Rattle.xl_expr.specs.Targets.{AreGoodLines}
-use Rattle.xl_par.specs.Hands.{Hand, IsAmong, KeptHand, WithinHand, empty_hand}
+use Rattle.xl_par.specs.Acquired.{Acquired, IsAmong, KeepsAcquired, WithinAcquiring, nothing_acquired}
 
 -- r1 to r7 hold the synchronisers of the `par`s that the thread is in, the innermost in r1: each goes to the next register. Eight
 -- threads can't be nested deeper on one of them than seven.
@@ -127,7 +127,7 @@ pub record HoldsSyncs (core n : ℕ) (old regs : Regs) : Type 0 where
 -- thread itself goes on to pc. No word that it relies on has changed.
 pub record SetsOff
     (home : Home) (relied : ℕ → Bool) (stacks t : ℕ) (thread : Thread) (old : List ℕ) (starts : List ℕ)
-    (pos : Pos) (pc : ℕ) (hand : Hand) (b : CoreState) : Type 0 where
+    (pos : Pos) (pc : ℕ) (hand : Acquired) (b : CoreState) : Type 0 where
   pub sync : ℕ
   pub sync_is : hand.sync ≡ Some sync
   pub few : sync < 8
@@ -154,10 +154,10 @@ pub record Opens (stacks slaves : ℕ) (pos : Pos) (pc : ℕ) (lines : List Line
   pub by : (home : Home) (relied : ℕ → Bool) (t : ℕ) (thread : Thread) (starts : List ℕ) (a : CoreState) →
       home.number < 4 → length starts ≡ slaves →
       StandAt home.parts.code pc (filled lines starts) → RunsAt t pc thread a →
-      WithinHand home relied t
-      (λ hand b. (c : CoreState) → KeptHand relied t hand b c →
+      WithinAcquiring home relied t
+      (λ hand b. (c : CoreState) → KeepsAcquired relied t hand b c →
       SetsOff home relied stacks t thread a.words starts pos (pc + length lines) hand c)
-      (7 * slaves + 9) (empty_hand slaves) a
+      (7 * slaves + 9) (nothing_acquired slaves) a
 
 -- each is below
 abbrev pub AreBelow : (size : ℕ) → List ℕ → Type 0

@@ -11,7 +11,7 @@ use Rattle.xl_expr.specs.Targets.{AreAimed}
 use Rattle.xl_flow.specs.Flow.{AddsTest, Tests}
 use Rattle.xl_statements.specs.declared.walk.Leaving.{Leaving}
 use Rattle.xl_statements.specs.Cells.{Cell, known, behind, leaves, line_of}
-use Rattle.xl_statements.specs.Emits.{Coded, Emitted, Turns}
+use Rattle.xl_statements.specs.Emits.{Coded, Emitted, LoopCode}
 use Rattle.xl_statements.proofs.Parts.{emitted_length, emitted_last, leaves_append, leaves_behind, lines_append, lines_known}
 use Rattle.xl_statements.proofs.Seams.{lands_at, next_length, open_at}
 use Rattle.xl_statements.proofs.Sides.{test_aimed, test_front, test_last, test_length}
@@ -102,13 +102,13 @@ module _
           ∙ ap (λ l. left0 ++ l) (sym (leaves_append at_2.cells (at_3.cells ++ known back ∷ []) (length e0 + length at_1.lines + 1)))
           ∙ ap (λ l. left0 ++ l) (sym (leaves_behind at_1.lines (known (line (Brff R0 (length e4)) last) ∷ (at_2.cells ++ (at_3.cells ++ known back ∷ []))) (length e0)))
 
-      pub turns_emitted : last ≡ last_pos e0 → Emitted (Turns vars x Body Next) e0 e5 left0 left2
+      pub turns_emitted : last ≡ last_pos e0 → Emitted (LoopCode vars x Body Next) e0 e5 left0 left2
       turns_emitted last_is =
           record {
             cells = cells;
             lines = e5_is;
             leaving_ones = cells_leaves;
-            so = subst (λ p. Turns vars x Body Next p (length e0) cells) last_is (record {
+            so = subst (λ p. LoopCode vars x Body Next p (length e0) cells) last_is (record {
               test = at_1.lines;
               body = at_2.cells;
               next = at_3.cells;

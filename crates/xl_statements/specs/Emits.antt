@@ -84,7 +84,7 @@ Branching kernel.no_more vars x First Second last pc cells = OneSide vars x Firs
 Branching (kernel.more s ss) vars x First Second last pc cells = TwoSides vars x First Second last pc cells
 
 -- A test that leaves the loop where its word is 0, the body, what follows each turn, and a jump back to the test.
-pub record Turns
+pub record LoopCode
     (vars : List (Option VarPlan)) (x : kernel.Expression) (Body Next : Coded)
     (last : Pos) (pc : ℕ) (cells : List Cell) : Type 0 where
   pub test : List Line
@@ -175,7 +175,7 @@ module _ (plan : Plan) where
     Emits sides (kernel.output o) last pc cells = OutputEmits sides o o.resource last pc cells
     Emits sides (kernel.input i) last pc cells = InputEmits sides i i.resource last pc cells
     Emits sides (kernel.if_then x a b) last pc cells = Branching b plan.vars x (AllEmit sides a) (AllEmit sides b) last pc cells
-    Emits sides (kernel.loop x a b) last pc cells = Turns plan.vars x (AllEmit sides a) (AllEmit sides b) last pc cells
+    Emits sides (kernel.loop x a b) last pc cells = LoopCode plan.vars x (AllEmit sides a) (AllEmit sides b) last pc cells
     Emits sides (kernel.block n a) last pc cells = Closes n (AllEmit sides a) last pc cells
     Emits sides (kernel.exit n) last pc cells = cells ≡ leaving n last ∷ []
     Emits sides (kernel.par bs) last pc cells = ParEmits sides bs last pc cells

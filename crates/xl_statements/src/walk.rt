@@ -6,7 +6,7 @@ ghost use Rattle.xl_expr.specs.Measures.{depth, nodes};
 ghost use Rattle.xl_ends.specs.Sides.{sides_of};
 ghost use Rattle.xl_statements.specs.Built.{AreBuilt, AreShallow, HasFewBranches, IsBuilt, IsShallow, ParsAreFew, most, most_levels, most_of_all, statements_of};
 ghost use Rattle.xl_statements.specs.Cells.{leaving};
-ghost use Rattle.xl_statements.specs.Emits.{AllEmit, Branching, Closes, Emits, Emitted, OneSide, Turns, TwoSides};
+ghost use Rattle.xl_statements.specs.Emits.{AllEmit, Branching, Closes, Emits, Emitted, OneSide, LoopCode, TwoSides};
 ghost use Rattle.xl_statements.specs.Landing.{Closable, closed_lines, others_leaving};
 
 use crate::par::emit_par;
@@ -283,7 +283,7 @@ fn emit_loop(
         + most_of_all plan.now.vars (statements_of body.now)
         + most_of_all plan.now.vars (statements_of next.now) + 2 < 2 ^ 32 }
     ensures code { OnOk result (Emitted
-        (Turns plan.now.vars (expression_of test.now)
+        (LoopCode plan.now.vars (expression_of test.now)
         (AllEmit plan.now (sides_of sides.now) (statements_of body.now))
         (AllEmit plan.now (sides_of sides.now) (statements_of next.now)))
         e.old e.new left.old.items left.new.items) }

@@ -8,7 +8,7 @@ use Rattle.xc_meaning.specs.States.Items.{Item, does}
 use Rattle.xc_meaning.specs.States.Worlds.{World}
 use Rattle.xc_disjoint.specs.Needs.{threads_on}
 use Rattle.xc_invariants.specs.Needs.{Budgeted}
-use Rattle.xl_par.specs.Hands.{Hand, IsAmong}
+use Rattle.xl_par.specs.Acquired.{Acquired, IsAmong}
 use Rattle.xl_plan.specs.Layout.{temporary_of}
 use Rattle.xr_simulation.specs.Fits.{FitOn}
 use Rattle.xr_simulation.specs.Parents.{Parent, branches_of, syncs_of}
@@ -22,7 +22,7 @@ use Rattle.xr_simulation.specs.Turns.{IsFree, IsWaitingTied}
 pub data Role : Type 0 where
   unused : Role
   got_by : (thread : ℕ) → Role
-  used_by : Runner → Option Hand → Role
+  used_by : Runner → Option Acquired → Role
 
 abbrev pub Roles : Type 0
 Roles = (core thread : ℕ) → Role
@@ -67,50 +67,50 @@ ParentsWait g x core family (p ∷ ps) first = ParentWaits g x core family p fir
 
 -- what a runner has in hand goes with what its branch has to do next: it is opening a `par` of several branches, or has nothing in hand but a
 -- synchroniser to be given back
-pub data HandFits (items : List Item) (hand : Option Hand) : Type 0 where
-  empty : hand ≡ None → HandFits items hand
-  gives_back : (n : ℕ) → hand ≡ Some (record { sync = Some n; threads = []; lacks = 0 }) → HandFits items hand
-  opens : (h : Hand) (bs : kernel.Branches) (rest : List Item) → hand ≡ Some h → items ≡ does (kernel.par bs) ∷ rest →
-      1 + length h.threads + h.lacks ≡ branch_count bs → 2 ≤ branch_count bs → (h.sync ≡ None → h.threads ≡ []) → HandFits items hand
+pub data AcquiredFits (items : List Item) (hand : Option Acquired) : Type 0 where
+  empty : hand ≡ None → AcquiredFits items hand
+  gives_back : (n : ℕ) → hand ≡ Some (record { sync = Some n; threads = []; lacks = 0 }) → AcquiredFits items hand
+  opens : (h : Acquired) (bs : kernel.Branches) (rest : List Item) → hand ≡ Some h → items ≡ does (kernel.par bs) ∷ rest →
+      1 + length h.threads + h.lacks ≡ branch_count bs → 2 ≤ branch_count bs → (h.sync ≡ None → h.threads ≡ []) → AcquiredFits items hand
 
 -- which runner has which role, whose threads were got, and which synchronisers are whose; the j-th branch of a `par` behind the first is run by
 -- a thread that is tied to its synchroniser, and each tied thread began as one
 pub record AreRoles (g : Setting) (who : Roles) : Type 0 where
-  pub core : (c t : ℕ) (r : Runner) (hand : Option Hand) → who c t ≡ used_by r hand → r.core ≡ c
-  pub there : (c t : ℕ) (r : Runner) (hand : Option Hand) → who c t ≡ used_by r hand → c < 4
-  pub thread : (c t : ℕ) (r : Runner) (hand : Option Hand) → who c t ≡ used_by r hand → r.thread ≡ t
+  pub core : (c t : ℕ) (r : Runner) (hand : Option Acquired) → who c t ≡ used_by r hand → r.core ≡ c
+  pub there : (c t : ℕ) (r : Runner) (hand : Option Acquired) → who c t ≡ used_by r hand → c < 4
+  pub thread : (c t : ℕ) (r : Runner) (hand : Option Acquired) → who c t ≡ used_by r hand → r.thread ≡ t
   pub few : (c t : ℕ) → who c t ≢ unused → t < 8
   pub inside : (c t : ℕ) → who c t ≢ unused → t < threads_on g.program c
-  pub block : (c t : ℕ) (r : Runner) (hand : Option Hand) → who c t ≡ used_by r hand → r.block ≡ outside
-  pub stack : (c t : ℕ) (r : Runner) (hand : Option Hand) → who c t ≡ used_by r hand → r.stack ≡ temporary_of g.program c t
-  pub started : (c t : ℕ) (r : Runner) (hand : Option Hand) → who c t ≡ used_by r hand → outermost r.branch r.parents ≡ r.family
-  pub branches : (c t c' t' b : ℕ) (r s : Runner) (hand other : Option Hand) → who c t ≡ used_by r hand → who c' t' ≡ used_by s other →
+  pub block : (c t : ℕ) (r : Runner) (hand : Option Acquired) → who c t ≡ used_by r hand → r.block ≡ outside
+  pub stack : (c t : ℕ) (r : Runner) (hand : Option Acquired) → who c t ≡ used_by r hand → r.stack ≡ temporary_of g.program c t
+  pub started : (c t : ℕ) (r : Runner) (hand : Option Acquired) → who c t ≡ used_by r hand → outermost r.branch r.parents ≡ r.family
+  pub branches : (c t c' t' b : ℕ) (r s : Runner) (hand other : Option Acquired) → who c t ≡ used_by r hand → who c' t' ≡ used_by s other →
       IsAmong (own_branches r) b → IsAmong (own_branches s) b → (c' ≡ c) × (t' ≡ t)
-  pub got : (c u t : ℕ) → who c u ≡ got_by t → (r : Runner) × (hand : Option Hand) × (who c t ≡ used_by r hand) × IsAmong (held_in hand) u
-  pub held : (c t u : ℕ) (r : Runner) (hand : Option Hand) → who c t ≡ used_by r hand → IsAmong (held_in hand) u → who c u ≡ got_by t
-  pub held_once : (c t : ℕ) (r : Runner) (hand : Option Hand) → who c t ≡ used_by r hand → IsOnce (held_in hand)
-  pub owner : (c t t' n : ℕ) (r s : Runner) (hand other : Option Hand) → who c t ≡ used_by r hand → who c t' ≡ used_by s other →
+  pub got : (c u t : ℕ) → who c u ≡ got_by t → (r : Runner) × (hand : Option Acquired) × (who c t ≡ used_by r hand) × IsAmong (held_in hand) u
+  pub held : (c t u : ℕ) (r : Runner) (hand : Option Acquired) → who c t ≡ used_by r hand → IsAmong (held_in hand) u → who c u ≡ got_by t
+  pub held_once : (c t : ℕ) (r : Runner) (hand : Option Acquired) → who c t ≡ used_by r hand → IsOnce (held_in hand)
+  pub owner : (c t t' n : ℕ) (r s : Runner) (hand other : Option Acquired) → who c t ≡ used_by r hand → who c t' ≡ used_by s other →
       Owns r hand n → Owns s other n → t' ≡ t
-  pub owned_once : (c t : ℕ) (r : Runner) (hand : Option Hand) → who c t ≡ used_by r hand → IsOnce (syncs_of r.parents)
-  pub owned_apart : (c t n : ℕ) (r : Runner) (hand : Option Hand) → who c t ≡ used_by r hand → IsAmong (syncs_of r.parents) n →
+  pub owned_once : (c t : ℕ) (r : Runner) (hand : Option Acquired) → who c t ≡ used_by r hand → IsOnce (syncs_of r.parents)
+  pub owned_apart : (c t n : ℕ) (r : Runner) (hand : Option Acquired) → who c t ≡ used_by r hand → IsAmong (syncs_of r.parents) n →
       sync_in hand ≢ Some n
-  pub kids : (c t n j : ℕ) (r : Runner) (hand : Option Hand) (p : Parent) → who c t ≡ used_by r hand → IsParent r.parents p → p.sync ≡ Some n →
+  pub kids : (c t n j : ℕ) (r : Runner) (hand : Option Acquired) (p : Parent) → who c t ≡ used_by r hand → IsParent r.parents p → p.sync ≡ Some n →
       1 ≤ j → j < p.count →
-      (u : ℕ) × (s : Runner) × (other : Option Hand) × (who c u ≡ used_by s other) × (s.tie ≡ Some n) × (s.family ≡ p.from + j)
-  pub tied : (c u n : ℕ) (s : Runner) (other : Option Hand) → who c u ≡ used_by s other → s.tie ≡ Some n →
-      (t : ℕ) × (j : ℕ) × (r : Runner) × (hand : Option Hand) × (p : Parent) × (who c t ≡ used_by r hand) × IsParent r.parents p
+      (u : ℕ) × (s : Runner) × (other : Option Acquired) × (who c u ≡ used_by s other) × (s.tie ≡ Some n) × (s.family ≡ p.from + j)
+  pub tied : (c u n : ℕ) (s : Runner) (other : Option Acquired) → who c u ≡ used_by s other → s.tie ≡ Some n →
+      (t : ℕ) × (j : ℕ) × (r : Runner) × (hand : Option Acquired) × (p : Parent) × (who c t ≡ used_by r hand) × IsParent r.parents p
       × (p.sync ≡ Some n) × (1 ≤ j) × (j < p.count) × (s.family ≡ p.from + j)
-  pub untied : (c u : ℕ) (s : Runner) (other : Option Hand) → who c u ≡ used_by s other → s.tie ≡ None → s.family < length g.program.roots
+  pub untied : (c u : ℕ) (s : Runner) (other : Option Acquired) → who c u ≡ used_by s other → s.tie ≡ None → s.family < length g.program.roots
 
 -- the threads and synchronisers of a core, beside the threads that run branches
 pub record AreUsedSo (who : Roles) (c : ℕ) (a : CoreState) : Type 0 where
   pub threads : length a.threads ≡ 8
   pub syncs : length a.syncs ≡ 7
   pub unused : (u : ℕ) → u < 8 → who c u ≡ unused → IsFree (slice_get a.threads u)
-  pub got : (u t n : ℕ) (r : Runner) (hand : Option Hand) → who c u ≡ got_by t → who c t ≡ used_by r hand → sync_in hand ≡ Some n →
+  pub got : (u t n : ℕ) (r : Runner) (hand : Option Acquired) → who c u ≡ got_by t → who c t ≡ used_by r hand → sync_in hand ≡ Some n →
       IsWaitingTied n (slice_get a.threads u)
-  pub taken : (n : ℕ) → slice_get a.syncs n ≡ Some true → (t : ℕ) × (r : Runner) × (hand : Option Hand) × (who c t ≡ used_by r hand) × Owns r hand n
-  pub owned : (t n : ℕ) (r : Runner) (hand : Option Hand) → who c t ≡ used_by r hand → Owns r hand n → slice_get a.syncs n ≡ Some true
+  pub taken : (n : ℕ) → slice_get a.syncs n ≡ Some true → (t : ℕ) × (r : Runner) × (hand : Option Acquired) × (who c t ≡ used_by r hand) × Owns r hand n
+  pub owned : (t n : ℕ) (r : Runner) (hand : Option Acquired) → who c t ≡ used_by r hand → Owns r hand n → slice_get a.syncs n ≡ Some true
 
 -- Each branch has threads in reserve, as the laws of runs have it. One whose thread has still to give a synchroniser back has two at least: it
 -- has back what it gave to the branches of its `par`. So the synchronisers of a core are no more than its threads.

@@ -12,7 +12,7 @@ use Rattle.xc_meaning.specs.States.Branches.{Birth, Branch, Mode, has_ended, run
 use Rattle.xc_meaning.specs.States.Items.{Item}
 use Rattle.xc_meaning.specs.States.Worlds.{World}
 use Rattle.xc_meaning.specs.Uses.{by_items}
-use Rattle.xl_par.specs.Hands.{Hand, IsAmong}
+use Rattle.xl_par.specs.Acquired.{Acquired, IsAmong}
 use Rattle.xc_disjoint.specs.Needs.{threads_on}
 use Rattle.xc_invariants.specs.Lawful.{Lawful}
 use Rattle.xc_invariants.specs.Tree.{IsChild}
@@ -22,7 +22,7 @@ use Rattle.xr_match.specs.Meanings.{of_kernel}
 use Rattle.xr_match.specs.Sources.{Told}
 use Rattle.xr_match.specs.Systems.{SomeIs}
 use Rattle.xr_simulation.specs.Parents.{Parent}
-use Rattle.xr_simulation.specs.Roles.{AreRoles, AreUsedSo, HandFits, HasReserves, IsParent, ParentsWait, Role, Roles, got_by, own_branches, unused, used_by}
+use Rattle.xr_simulation.specs.Roles.{AreRoles, AreUsedSo, AcquiredFits, HasReserves, IsParent, ParentsWait, Role, Roles, got_by, own_branches, unused, used_by}
 use Rattle.xr_simulation.specs.Runners.{HoldsPlaces, Setting, Runner, IsPort, anyone, footprint_of}
 use Rattle.xr_simulation.specs.Sizes.{sizes_in, sizes_of}
 use Rattle.xr_simulation.specs.ThreadViews.{ThreadView}
@@ -99,14 +99,14 @@ module _ (g : Setting) (r : Runner) where
 
   -- The thread runs this branch, in a life whose steps, with those that are left to it before the branch's next one, are within the bound.
   pub record Stand
-      (may_rest : Bool) (hand : Option Hand) (a : CoreState) (x : World) (life : Life) (actions : (family : ℕ) → ℕ)
+      (may_rest : Bool) (hand : Option Acquired) (a : CoreState) (x : World) (life : Life) (actions : (family : ℕ) → ℕ)
       (branch : Branch) : Type 0 where
     pub core : branch.core ≡ r.core
     pub family : branch.family ≡ r.family
     pub footprint : r.footprint ≡ footprint_of branch.items
     pub parents : ParentsWait g x r.core r.family r.parents r.branch
     pub thread : HasThread branch.mode branch.items a
-    pub in_hand : HandFits branch.items hand
+    pub in_hand : AcquiredFits branch.items hand
     pub sides : branch.sides ≡ r.sides
     pub inside : branch.inside ≡ r.inside
     pub done : branch.mode ≡ ended → r.transfer ≡ None
@@ -125,16 +125,16 @@ Stands g may_rest a x life actions (used_by r hand) = SomeIs (slice_get x.branch
 -- What nobody may change is as the program has it, where a branch that waits uses it.
 
 abbrev pub NobodyChanges : Roles → (core variable : ℕ) → Type 0
-NobodyChanges who c v = (t : ℕ) (r : Runner) (hand : Option Hand) → who c t ≡ used_by r hand → r.footprint.changes v ≡ false
+NobodyChanges who c v = (t : ℕ) (r : Runner) (hand : Option Acquired) → who c t ≡ used_by r hand → r.footprint.changes v ≡ false
 
 abbrev pub NobodyHas : Roles → (core port : ℕ) → Type 0
-NobodyHas who c p = (t : ℕ) (r : Runner) (hand : Option Hand) → who c t ≡ used_by r hand → r.footprint.ports p ≡ false
+NobodyHas who c p = (t : ℕ) (r : Runner) (hand : Option Acquired) → who c t ≡ used_by r hand → r.footprint.ports p ≡ false
 
 -- a branch of a core that waits uses the variable
 pub record IsWanted (who : Roles) (c v : ℕ) : Type 0 where
   pub thread : ℕ
   pub runner : Runner
-  pub hand : Option Hand
+  pub hand : Option Acquired
   pub runs : who c thread ≡ used_by runner hand
   pub parent : Parent
   pub waits : IsParent runner.parents parent
@@ -167,7 +167,7 @@ pub record IsRun (who : Roles) (b : ℕ) : Type 0 where
   pub core : ℕ
   pub thread : ℕ
   pub runner : Runner
-  pub hand : Option Hand
+  pub hand : Option Acquired
   pub runs : who core thread ≡ used_by runner hand
   pub branch : IsAmong (own_branches runner) b
 
@@ -193,7 +193,7 @@ pub record Standing
   pub loose : (c : ℕ) (a : CoreState) → slice_get w.machine.cores c ≡ Some a → 1 ≤ threads_on g.program c → AreLoose g who c a x.state
   pub sizes : (c : ℕ) (a : CoreState) → slice_get w.machine.cores c ≡ Some a → sizes_of a ≡ sizes_in (parts_in g.image.cores c)
   pub wired : AreWired g who w.machine x.state
-  pub alone : (c t : ℕ) (r : Runner) (hand : Option Hand) (transfer : Transfer) → who c t ≡ used_by r hand → r.transfer ≡ Some transfer →
+  pub alone : (c t : ℕ) (r : Runner) (hand : Option Acquired) (transfer : Transfer) → who c t ≡ used_by r hand → r.transfer ≡ Some transfer →
       HasAlone x.state.branches transfer.channel transfer.side r.branch
   pub roots : (c : ℕ) (a : CoreState) → slice_get w.machine.cores c ≡ Some a → a.roots ≡ living_on c x.state.branches
   pub placed : (b : ℕ) (branch : Branch) → slice_get x.state.branches b ≡ Some branch → branch.core < 4

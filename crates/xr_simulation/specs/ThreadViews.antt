@@ -9,7 +9,7 @@ use Rattle.xs_instr.specs.Pool.{first_free, is_tied, threads_taken, tied_to}
 use Rattle.xs_instr.specs.Slot.{slot}
 use Rattle.xc_kernel.specs.Eval.{words_of}
 use Rattle.xc_meaning.specs.States.Worlds.{World}
-use Rattle.xl_par.specs.Hands.{Hand, HasSpare, IsAmong, with_sync, with_thread_got}
+use Rattle.xl_par.specs.Acquired.{Acquired, HasSpare, IsAmong, with_sync, with_thread_got}
 use Rattle.xr_simulation.specs.Parents.{branches_of, syncs_of}
 use Rattle.xr_simulation.specs.Runners.{IsMine, Setting, Runner, MayChange, home, relied}
 use Rattle.xr_simulation.specs.Sizes.{sizes_of}
@@ -19,21 +19,21 @@ use Rattle.xl_expr.specs.ResourceParts.{OtherPartsStay, OwnPartsStay}
 pub record ThreadView : Type 0 where
   pub core : CoreState
   pub world : World
-  pub hand : Option Hand
+  pub hand : Option Acquired
 
 -- a synchroniser that is still to be given back
-abbrev pub giving_back : (n : ℕ) → Option Hand
+abbrev pub giving_back : (n : ℕ) → Option Acquired
 giving_back n = Some (record { sync = Some n; threads = []; lacks = 0 })
 
-abbrev pub held_in : Option Hand → List ℕ
+abbrev pub held_in : Option Acquired → List ℕ
 held_in None = []
 held_in (Some hand) = hand.threads
 
-abbrev pub sync_in : Option Hand → Option ℕ
+abbrev pub sync_in : Option Acquired → Option ℕ
 sync_in None = None
 sync_in (Some hand) = hand.sync
 
-abbrev pub SpareFor : Option Hand → CoreState → Type 0
+abbrev pub SpareFor : Option Acquired → CoreState → Type 0
 SpareFor None core = Unit {0}
 SpareFor (Some hand) core = HasSpare hand core
 
@@ -46,7 +46,7 @@ abbrev pub running : Option ℕ → ℕ → Regs → Thread
 running tie pc regs = running_so false tie pc regs
 
 -- a synchroniser is one of the runner's: of a branch that waits, or in its hand
-abbrev pub Owns : Runner → Option Hand → (n : ℕ) → Type 0
+abbrev pub Owns : Runner → Option Acquired → (n : ℕ) → Type 0
 Owns r hand n = IsAmong (syncs_of r.parents) n ⊎ (sync_in hand ≡ Some n)
 
 module _ (g : Setting) (r : Runner) where
@@ -84,9 +84,9 @@ module _ (g : Setting) (r : Runner) where
   -- what a step makes of the runner's hand
   pub data HandChange (y z : ThreadView) : Type 0 where
     keeps : z.hand ≡ y.hand → z.core.syncs ≡ y.core.syncs → SameUse y z → HandChange y z
-    gets_sync : (hand : Hand) (n : ℕ) → y.hand ≡ Some hand → hand.sync ≡ None → slice_get y.core.syncs n ≡ Some false →
+    gets_sync : (hand : Acquired) (n : ℕ) → y.hand ≡ Some hand → hand.sync ≡ None → slice_get y.core.syncs n ≡ Some false →
         z.core.syncs ≡ slice_set y.core.syncs n true → z.hand ≡ Some (with_sync hand n) → SameUse y z → HandChange y z
-    gets_thread : (hand : Hand) (n u : ℕ) (x : Thread) → y.hand ≡ Some hand → hand.sync ≡ Some n → 1 ≤ hand.lacks →
+    gets_thread : (hand : Acquired) (n u : ℕ) (x : Thread) → y.hand ≡ Some hand → hand.sync ≡ Some n → 1 ≤ hand.lacks →
         first_free (threads_taken y.core.threads) 0 ≡ Some u → slice_get y.core.threads u ≡ Some x → z.core.syncs ≡ y.core.syncs →
         z.hand ≡ Some (with_thread_got hand u) → slice_get z.core.threads u ≡ Some (tied_to n x) →
         ((v : ℕ) → v ≢ r.thread → v ≢ u → slice_get z.core.threads v ≡ slice_get y.core.threads v) → HandChange y z

@@ -38,10 +38,10 @@ use Rattle.xc_meaning.specs.States.Worlds.{World, Action, go, take, default}
 use Rattle.xc_meaning.specs.Runs.{acts}
 use Rattle.xc_meaning.specs.Uses.{by_item}
 use Rattle.xl_chan.specs.Protocols.{Act, ActsAll, input_acts, output_acts}
-use Rattle.xl_expr.specs.ResourceParts.{part_of}
+use Rattle.xl_expr.specs.ResourceParts.{resource_state}
 use Rattle.xl_expr.specs.Stores.{Stores}
 use Rattle.xl_ends.specs.Ends.{Sides, codes_in}
-use Rattle.xl_par.specs.Hands.{Hand, IsAmong, empty_hand}
+use Rattle.xl_par.specs.Acquired.{Acquired, IsAmong, nothing_acquired}
 use Rattle.xl_port.specs.Stamps.{Stamps}
 use Rattle.xl_image.specs.Images.{decl_of}
 use Rattle.xl_plan.specs.Layout.{port_number}
@@ -100,12 +100,12 @@ abbrev pub finished : Branch → Branch
 finished b = record b { mode = ended; items = [] }
 
 -- what a branch has in hand before it does its first item: for a `par` of several branches it lacks a thread for each behind the first
-abbrev pub hand_for : kernel.Branches → Option Hand
+abbrev pub hand_for : kernel.Branches → Option Acquired
 hand_for kernel.no_branch = None
 hand_for (kernel.more_branches b kernel.no_branch) = None
-hand_for (kernel.more_branches b (kernel.more_branches c bs)) = Some (empty_hand (branch_count (kernel.more_branches c bs)))
+hand_for (kernel.more_branches b (kernel.more_branches c bs)) = Some (nothing_acquired (branch_count (kernel.more_branches c bs)))
 
-abbrev pub first_hand : List Item → Option Hand
+abbrev pub first_hand : List Item → Option Acquired
 first_hand (does (kernel.par bs) ∷ rest) = hand_for bs
 first_hand items = None
 
@@ -160,7 +160,7 @@ stands_on_part g core items part = false
 
 -- two cores have the same of each of these parts
 abbrev pub SameParts : Setting → (core : ℕ) → List Item → (a b : CoreState) → Type 0
-SameParts g core items a b = (part : Res) → stands_on_part g core items part ≡ true → part_of b part ≡ part_of a part
+SameParts g core items a b = (part : Res) → stands_on_part g core items part ≡ true → resource_state b part ≡ resource_state a part
 
 -- A piece of code on a channel: it puts a word out, or takes one in.
 pub data Piece : Type 0 where
@@ -430,7 +430,7 @@ module _ (g : Setting) (r : Runner) where
 
   -- The thread sets off the branches of a `par` of several, and goes on with the first. At most one more jump is to be done behind that.
   pub record Begins (j : ℕ) (y : ThreadView) : Type 0 where
-    pub hand : Hand
+    pub hand : Acquired
     pub in_hand : y.hand ≡ Some hand
     pub sync : ℕ
     pub sync_is : hand.sync ≡ Some sync

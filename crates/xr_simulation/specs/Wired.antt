@@ -9,7 +9,7 @@ use Rattle.xc_meaning.specs.States.Branches.{Branch, side_of}
 use Rattle.xc_meaning.specs.States.Channels.{Inboxes, Parcel, Side, no_parcels, other_side}
 use Rattle.xc_meaning.specs.States.Worlds.{World}
 use Rattle.xc_meaning.specs.Uses.{by_items}
-use Rattle.xl_par.specs.Hands.{Hand}
+use Rattle.xl_par.specs.Acquired.{Acquired}
 use Rattle.xl_plan.specs.Layout.{core_of}
 use Rattle.xr_match.specs.Sides.{two_sided}
 use Rattle.xr_simulation.specs.Roles.{Roles, used_by}
@@ -34,7 +34,7 @@ IsLine K line c = slice_get (two_sided K) line ≡ Some c
 -- a thread is inside a transfer on a side of a channel
 pub record IsTransferring (who : Roles) (core thread : ℕ) (c : ℕ) (side : Side) : Type 0 where
   pub runner : Runner
-  pub hand : Option Hand
+  pub hand : Option Acquired
   pub runs : who core thread ≡ used_by runner hand
   pub transfer : Transfer
   pub is : runner.transfer ≡ Some transfer

@@ -8,7 +8,7 @@ use Rattle.xc_disjoint.specs.Needs.{threads_on}
 use Rattle.xc_meaning.specs.States.Branches.{Branch, has_ended}
 use Rattle.xc_meaning.specs.States.Worlds.{World}
 use Rattle.xl_expr.proofs.Lists.{get_set_same}
-use Rattle.xl_par.specs.Hands.{Hand, IsAmong}
+use Rattle.xl_par.specs.Acquired.{Acquired, IsAmong}
 use Rattle.xr_match.specs.Lives.{Watched}
 use Rattle.xr_match.specs.Systems.{SomeIs}
 use Rattle.xr_simulation.specs.Roles.{IsParent, Roles, got_by, own_branches, used_by}
@@ -99,7 +99,7 @@ module _ {moment : Moment none_rests} (thread_at : ThreadAt moment None)
     branches : own_branches i ≡ own_branches j
     footprint : i.footprint ≡ j.footprint
 
-  alike_cases : (d u : ℕ) (i : Runner) (other : Option Hand) → who_next d u ≡ used_by i other → (j : Runner) × (who d u ≡ used_by j other) × IsAlike j i
+  alike_cases : (d u : ℕ) (i : Runner) (other : Option Acquired) → who_next d u ≡ used_by i other → (j : Runner) × (who d u ≡ used_by j other) × IsAlike j i
   alike_cases d u i other at =
       ⊎_elim
       (λ here.
@@ -113,7 +113,7 @@ module _ {moment : Moment none_rests} (thread_at : ThreadAt moment None)
       (λ there. (i, sym there.1 ∙ at, record { parents = refl; branches = refl; footprint = refl }))
       (role_cases who c t (used_by s None) d u)
 
-  alike_still : (d u : ℕ) (i : Runner) (other : Option Hand) → who d u ≡ used_by i other → (j : Runner) × (who_next d u ≡ used_by j other) × IsAlike j i
+  alike_still : (d u : ℕ) (i : Runner) (other : Option Acquired) → who d u ≡ used_by i other → (j : Runner) × (who_next d u ≡ used_by j other) × IsAlike j i
   alike_still d u i other at =
       ⊎_elim
       (λ here.
@@ -175,7 +175,7 @@ module _ {moment : Moment none_rests} (thread_at : ThreadAt moment None)
         (subst (Stands g (may_rest' c t) left x.state (watched_next.lives c t) more) (sym (role_here who c t (used_by s None)))
         (subst (λ o. SomeIs o (Stand g s (may_rest' c t) None left x.state (watched_next.lives c t) more)) (sym known) stand))
 
-    own_alone : (u : ℕ) (i : Runner) (hand : Option Hand) (transfer : Transfer) → only_thread t u ≡ true → who_next c u ≡ used_by i hand → i.transfer ≡ Some transfer → HasAlone x.state.branches transfer.channel transfer.side i.branch
+    own_alone : (u : ℕ) (i : Runner) (hand : Option Acquired) (transfer : Transfer) → only_thread t u ≡ true → who_next c u ≡ used_by i hand → i.transfer ≡ Some transfer → HasAlone x.state.branches transfer.channel transfer.side i.branch
     own_alone u i hand transfer m at its =
         let same : s ≡ i = same_runner s i None hand (sym (role_here who c t (used_by s None)) ∙ ap (who_next c) (sym (eqb-true u t m)) ∙ at) in
         subst (λ (k : Runner). HasAlone x.state.branches transfer.channel transfer.side k.branch) same (alone transfer (ap (λ (k : Runner). k.transfer) same ∙ its))

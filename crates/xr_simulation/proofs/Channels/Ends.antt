@@ -9,7 +9,7 @@ use Rattle.xs_instr.specs.declared.state.Regs.{Regs}
 use Rattle.xc_meaning.specs.States.Channels.{Inboxes, Side, first, second, other_side}
 use Rattle.xl_chan.specs.Protocols.{Act, Acts}
 use Rattle.xl_image.specs.Images.{pair_of}
-use Rattle.xl_par.specs.Hands.{Hand}
+use Rattle.xl_par.specs.Acquired.{Acquired}
 use Rattle.xl_plan.specs.Layout.{end_number}
 use Rattle.xr_simulation.specs.Runners.{end_place, home}
 use Rattle.xr_simulation.specs.ThreadViews.{running}
@@ -23,7 +23,7 @@ use Rattle.xr_channels.proofs.All.Near.{IsNear, NearEnd}
 use Rattle.xr_channels.proofs.Sides.Updates.{moved_to}
 use Rattle.xr_simulation.proofs.Relation.Moments.{Moment, ThreadAt}
 
-module _ {moment : Moment none_rests} {hand : Option Hand} (thread_at : ThreadAt moment hand)
+module _ {moment : Moment none_rests} {hand : Option Acquired} (thread_at : ThreadAt moment hand)
     (channel : ℕ) (side : Side) (line : ℕ) (is_line : IsLine moment.setting.program line channel)
     (on_core : AreSidesOn moment.setting.program channel thread_at.core) where
   open moment use {setting as g, image as is, watched as w, told as x, standing as st}

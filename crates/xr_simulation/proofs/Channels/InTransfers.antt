@@ -14,7 +14,7 @@ use Rattle.xs_instr.specs.declared.state.Thread.{Thread}
 use Rattle.xc_meaning.specs.Counts.KernelCounts.{kernel_bound}
 use Rattle.xc_meaning.specs.States.Branches.{runs, ended, erred}
 use Rattle.xc_meaning.specs.States.Channels.{Side}
-use Rattle.xl_par.specs.Hands.{Hand}
+use Rattle.xl_par.specs.Acquired.{Acquired}
 use Rattle.xr_match.specs.Lives.{Life, Watched, watched_after}
 use Rattle.xr_match.specs.Meanings.{of_kernel}
 use Rattle.xr_match.specs.Sources.{Told}
@@ -50,7 +50,7 @@ pub data IsFollowed (g : Setting) (who : Roles) (w : Watched) (x : Told (of_kern
       Follows g may_rest who w x (watched_after w (Step c t) (behind_step w.machine c left made sent)) →
       IsFollowed g who w x c t r a did
 
-module _ {may_rest : (core thread : ℕ) → Bool} {moment : Moment may_rest} {hand : Option Hand} (thread_at : ThreadAt moment hand)
+module _ {may_rest : (core thread : ℕ) → Bool} {moment : Moment may_rest} {hand : Option Acquired} (thread_at : ThreadAt moment hand)
     (channel : ℕ) (side : Side) (phase : Phase) (its : thread_at.runner.transfer ≡ Some (in_phase channel side phase)) where
   open moment use {setting as g, roles as who, watched as w, told as x, standing as st}
   open thread_at use {core as c, thread as t, runner as r, runs as runs_r}

@@ -1,7 +1,7 @@
 -- While threads settle, none of them gets into a transfer.
 use Rattle.std.proofs.Common.{◌≡◌, ℕ, Option, None, sym, ap, ◌∙◌, ⊎_elim}
 use Rattle.std.specs.Prelude.{Bool}
-use Rattle.xl_par.specs.Hands.{Hand}
+use Rattle.xl_par.specs.Acquired.{Acquired}
 use Rattle.xr_match.specs.Lives.{Watched}
 use Rattle.xr_match.specs.Meanings.{of_kernel}
 use Rattle.xr_match.specs.Sources.{Told}
@@ -13,7 +13,7 @@ use Rattle.xr_simulation.proofs.Relation.Lasting.{Follows}
 
 -- no thread is inside a transfer
 abbrev pub NoneInside : Roles → Type 0
-NoneInside who = (core thread : ℕ) (r : Runner) (hand : Option Hand) → who core thread ≡ used_by r hand → r.transfer ≡ None
+NoneInside who = (core thread : ℕ) (r : Runner) (hand : Option Acquired) → who core thread ≡ used_by r hand → r.transfer ≡ None
 
 -- a piece of the run leads to where the two stand so, and none is inside a transfer if none was
 pub record Settles (g : Setting) (may_rest : (core thread : ℕ) → Bool) (old : Roles) (before : Watched) (x : Told (of_kernel g.program)) (w : Watched) : Type 0 where
@@ -21,7 +21,7 @@ pub record Settles (g : Setting) (may_rest : (core thread : ℕ) → Bool) (old 
   pub none_inside : NoneInside old → NoneInside follows.who
 
 -- one thread more is none
-pub none_with : (who : Roles) (c t : ℕ) (s : Runner) (hand : Option Hand) → s.transfer ≡ None → NoneInside who → NoneInside (with_role who c t (used_by s hand))
+pub none_with : (who : Roles) (c t : ℕ) (s : Runner) (hand : Option Acquired) → s.transfer ≡ None → NoneInside who → NoneInside (with_role who c t (used_by s hand))
 none_with who c t s hand none all core thread r other runs =
     ⊎_elim
     (λ here. of_runner (sym here.2 ∙ runs))

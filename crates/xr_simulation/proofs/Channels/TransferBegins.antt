@@ -8,7 +8,7 @@ use Rattle.xc_invariants.specs.Tree.{IsWaiting}
 use Rattle.xc_meaning.specs.States.Branches.{Branch, runs, side_of}
 use Rattle.xc_meaning.specs.States.Channels.{Side, first, second, other_side}
 use Rattle.xc_meaning.specs.Uses.{by_items}
-use Rattle.xl_par.specs.Hands.{Hand}
+use Rattle.xl_par.specs.Acquired.{Acquired}
 use Rattle.xr_simulation.specs.Runners.{IsChannel, Runner}
 use Rattle.xr_simulation.specs.Transfers.{in_phase}
 use Rattle.xr_simulation.specs.Wired.{AreSidesOn, HasAlone, IsLine, IsTransferring}
@@ -24,7 +24,7 @@ not_other : (side : Side) → ◌≡◌ {A = Option Side} (Some side) (Some (oth
 not_other first e = cc
 not_other second e = cc
 
-module _ {may_rest : (core thread : ℕ) → Bool} {moment : Moment may_rest} {hand : Option Hand} (thread_at : ThreadAt moment hand)
+module _ {may_rest : (core thread : ℕ) → Bool} {moment : Moment may_rest} {hand : Option Acquired} (thread_at : ThreadAt moment hand)
     (outside : thread_at.runner.transfer ≡ None)
     (branch : Branch) (known : slice_get moment.told.state.branches thread_at.runner.branch ≡ Some branch) (on : branch.mode ≡ runs) (d : ℕ)
     (side : Side) (is_channel : IsChannel moment.setting thread_at.runner d) (uses : IsTrue (by_items (channel d) branch.items))

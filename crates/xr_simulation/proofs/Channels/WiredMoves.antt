@@ -8,7 +8,7 @@ use Rattle.xs_instr.specs.Machine.{Machine, parts_in}
 use Rattle.xc_meaning.specs.States.Channels.{Side, first, other_side, second}
 use Rattle.xc_meaning.specs.States.Worlds.{World}
 use Rattle.xl_image.specs.Images.{pair_of}
-use Rattle.xl_par.specs.Hands.{Hand}
+use Rattle.xl_par.specs.Acquired.{Acquired}
 use Rattle.xl_plan.specs.Layout.{core_of}
 use Rattle.xr_simulation.specs.Images.{AreLines}
 use Rattle.xr_simulation.specs.Roles.{Roles, used_by}
@@ -85,8 +85,8 @@ pub record Moves (g : Setting) (who : Roles) (c t : ℕ) (r s : Runner) (channel
   pub mine : (d u : ℕ) → IsTransferring who d u channel side → (d ≡ c) × (u ≡ t)
 
 module _ (g : Setting) (lines : AreLines g) (who : Roles) (m : Machine) (world : World) (h : AreWired g who m world) (c t : ℕ)
-    (a : CoreState) (at_c : slice_get m.cores c ≡ Some a) (r : Runner) (hand : Option Hand) (runs_r : who c t ≡ used_by r hand)
-    (s : Runner) (hand' : Option Hand)
+    (a : CoreState) (at_c : slice_get m.cores c ≡ Some a) (r : Runner) (hand : Option Acquired) (runs_r : who c t ≡ used_by r hand)
+    (s : Runner) (hand' : Option Acquired)
     (channel : ℕ) (side : Side) (line : ℕ) (is_line : IsLine g.program line channel) (on_core : AreSidesOn g.program channel c) (phase : Phase) (moves : Moves g who c t r s channel side phase) where
   abbrev who' : Roles
   who' = with_role who c t (used_by s hand')

@@ -9,7 +9,7 @@ use Rattle.xs_instr.specs.Ends.{Peer}
 use Rattle.xs_instr.specs.Machine.{Machine, no_links, parts_in}
 use Rattle.xc_meaning.specs.States.Channels.{Inboxes, Parcel, Side, first, second, other_side}
 use Rattle.xc_meaning.specs.States.Worlds.{World}
-use Rattle.xl_par.specs.Hands.{Hand}
+use Rattle.xl_par.specs.Acquired.{Acquired}
 use Rattle.xr_channels.specs.Balance.{Balanced, IsEight, Local, credits_in}
 use Rattle.xr_channels.specs.Fresh.{Stands}
 use Rattle.xr_channels.specs.Phases.{Spot, between, spot}
@@ -24,10 +24,10 @@ use Rattle.xl_expr.proofs.Lists.{get_set_other, get_set_same}
 
 -- each thread is in the transfer in which it was
 pub record TransfersAsBefore (who who' : Roles) : Type 0 where
-  pub before : (d u : ℕ) (i : Runner) (other : Option Hand) (transfer : Transfer) → who' d u ≡ used_by i other → i.transfer ≡ Some transfer →
-      (j : Runner) × (old : Option Hand) × (who d u ≡ used_by j old) × (j.transfer ≡ Some transfer)
-  pub still : (d u : ℕ) (j : Runner) (old : Option Hand) (transfer : Transfer) → who d u ≡ used_by j old → j.transfer ≡ Some transfer →
-      (i : Runner) × (other : Option Hand) × (who' d u ≡ used_by i other) × (i.transfer ≡ Some transfer)
+  pub before : (d u : ℕ) (i : Runner) (other : Option Acquired) (transfer : Transfer) → who' d u ≡ used_by i other → i.transfer ≡ Some transfer →
+      (j : Runner) × (old : Option Acquired) × (who d u ≡ used_by j old) × (j.transfer ≡ Some transfer)
+  pub still : (d u : ℕ) (j : Runner) (old : Option Acquired) (transfer : Transfer) → who d u ≡ used_by j old → j.transfer ≡ Some transfer →
+      (i : Runner) × (other : Option Acquired) × (who' d u ≡ used_by i other) × (i.transfer ≡ Some transfer)
 
 -- Each core has the ends that it had.
 module _ (cores cores' : List CoreState) (ends_same : (x : ℕ) → ends_in (slice_get cores' x) ≡ ends_in (slice_get cores x)) where
@@ -123,7 +123,7 @@ wired_still g who who' m m' c a b x y as_before was step left same h =
 
 -- A side's spot, where a thread is inside a transfer there, and where none is.
 module _ (g : Setting) (who : Roles) (m : Machine) (x : World) (h : AreWired g who m x) where
-  pub wired_inside : (core thread at : ℕ) (r : Runner) (hand : Option Hand) (transfer : Transfer) → who core thread ≡ used_by r hand →
+  pub wired_inside : (core thread at : ℕ) (r : Runner) (hand : Option Acquired) (transfer : Transfer) → who core thread ≡ used_by r hand →
       r.transfer ≡ Some transfer → IsLine g.program at transfer.channel →
       h.ghosts.spots at transfer.side ≡ spot transfer.phase false
   wired_inside core thread at r hand transfer runs is on = by (h.stances at transfer.channel transfer.side on)

@@ -3,7 +3,7 @@
 use Rattle.std.proofs.Common.{◌≡◌, ◌<◌, ℕ, ◌+◌, List, [], ◌∷◌, Option, refl, ◌∙◌, subst, arith}
 use Rattle.xc_kernel.specs.declared.statement.KRes.TheVariants as resource
 use Rattle.xc_meaning.specs.States.Items.{Item, does, says, stores, stamps, mark, awaits, transaction_end, chooses, fixed, ends}
-use Rattle.xl_par.specs.Hands.{Hand}
+use Rattle.xl_par.specs.Acquired.{Acquired}
 use Rattle.xr_simulation.specs.Items.{EndAt, LastAt}
 use Rattle.xr_simulation.specs.Parents.{Parent}
 use Rattle.xr_simulation.specs.Runners.{Setting, Runner, IsLaidOut, code, plan}
@@ -24,7 +24,7 @@ none_waits [] h = refl
 none_waits (p ∷ ps) h = absurd h
 
 -- where a thread rests doesn't depend on what it has in hand
-pub rest_with : (g : Setting) (r : Runner) (items : List Item) (j : ℕ) (z : ThreadView) (hand : Option Hand) → Rest g r items j z →
+pub rest_with : (g : Setting) (r : Runner) (items : List Item) (j : ℕ) (z : ThreadView) (hand : Option Acquired) → Rest g r items j z →
     Rest g r items j (record z { hand = hand })
 rest_with g r items j z hand h = record {
   pc = h.pc;

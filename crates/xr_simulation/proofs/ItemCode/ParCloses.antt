@@ -14,7 +14,7 @@ use Rattle.xl_expr.specs.Leads.{Leads}
 use Rattle.xl_expr.proofs.Lists.{get_set_other}
 use Rattle.xl_expr.proofs.ResourceParts.{others_same}
 use Rattle.xl_par.specs.Closing as closing
-use Rattle.xl_par.specs.Hands.{Hand, IsAmong}
+use Rattle.xl_par.specs.Acquired.{Acquired, IsAmong}
 use Rattle.xl_par.specs.Closing.{HoldsOuter, KeptSync, QuietStep}
 use Rattle.xr_simulation.specs.Items.{EndAt, ItemsAt}
 use Rattle.xr_simulation.specs.Parents.{Parent, sync_before, syncs_of}
@@ -72,7 +72,7 @@ module _ (g : Setting) (r : Runner) (n : ℕ) where
       }
 
   -- quiet steps are silent, so where they lead the runner comes, with what it had in hand
-  pub quiet_leads : (Q : CoreState → Type 0) (hand : Option Hand) (k : ℕ) (z : ThreadView) → z.hand ≡ hand → Owns r z.hand n →
+  pub quiet_leads : (Q : CoreState → Type 0) (hand : Option Acquired) (k : ℕ) (z : ThreadView) → z.hand ≡ hand → Owns r z.hand n →
       StillRuns g r z.core → Leads (KeptSync (relied g r) r.thread n) (QuietStep (home g r) r.thread) Q k z.core →
       LeadsIn g r (λ x. Q x.core × (x.hand ≡ hand)) k z
   quiet_leads Q hand zero z is owns on way = (way, is)
@@ -121,7 +121,7 @@ pub closes_leads : (g : Setting) (r : Runner) (p : Parent) (ps : List Parent) (n
     ItemsAt (plan g r) (code g r) p.sides (EndAt (plan g r) (code g r) r.tie ps) p.items exits closed j → z.hand ≡ None → LeadsIn g r (Joins g r p ps j) 7 z
 closes_leads g r p ps n j pc closed z regs exits parents sync few outer taken here bases closes behind no_hand =
     let first = first_sync g r p ps n j regs exits parents sync outer bases in
-    let owned : (hand : Option Hand) → Owns r hand n = λ hand. inl (subst (λ syncs. IsAmong syncs n) (sym first) (inl refl)) in
+    let owned : (hand : Option Acquired) → Owns r hand n = λ hand. inl (subst (λ syncs. IsAmong syncs n) (sym first) (inl refl)) in
     let name : regs.r1 ≡ sync_name r.core n = bases.names.by 0 n (ap (λ syncs. slice_get syncs 0) first) (omega arith) in
     let at_end = pc + length closes.lines in
     let Q : CoreState → Type 0 = λ b.

@@ -11,7 +11,7 @@ use Rattle.xc_kernel.specs.Plain as kernel
 use Rattle.xc_meaning.specs.Counts.KernelCounts.{branch_count}
 use Rattle.xc_meaning.specs.Settings.Sides.{sides_in}
 use Rattle.xc_meaning.specs.States.Items.{Item, does, ends, todo}
-use Rattle.xl_par.specs.Hands.{Hand, KeptHand, empty_hand}
+use Rattle.xl_par.specs.Acquired.{Acquired, KeepsAcquired, nothing_acquired}
 use Rattle.xl_par.specs.Opening.{HoldsSyncs, SetsOff}
 use Rattle.xr_simulation.specs.Fits.{Fits, ItemsFit}
 use Rattle.xr_simulation.specs.Items.{EndAt, ItemsAt}
@@ -83,7 +83,7 @@ module _ (g : Setting) (r : Runner) (ss : kernel.Statements) (pos : Pos) (b : ke
         (piece.closed, piece.closes, (exits, behind_jumps (plan g r) (code g r) r.sides (EndOf g r) rest exits piece.jumps piece.closed pc' j piece.past behind))
 
     -- once all are ready the next step sets them off
-    sets_off : (y : ThreadView) (hand : Hand) → y.hand ≡ Some hand → Has g r (does (kernel.par all) ∷ rest) y →
+    sets_off : (y : ThreadView) (hand : Acquired) → y.hand ≡ Some hand → Has g r (does (kernel.par all) ∷ rest) y →
         SetsOff (home g r) (relied g r) (plan g r).first_stack r.thread (running r.tie pc regs) z.core.words piece.starts piece.opens.place piece.first hand y.core → Begins g r j y
     sets_off y hand is has s = record {
       hand = hand;
@@ -119,12 +119,12 @@ module _ (g : Setting) (r : Runner) (ss : kernel.Statements) (pos : Pos) (b : ke
     }
 
     -- from its code the thread comes there
-    leads_there : r.core < 4 → Has g r (does (kernel.par all) ∷ rest) z → IsAt g r z pc regs → z.hand ≡ Some (empty_hand (branch_count others)) → Leads g r (cost g r) j z
+    leads_there : r.core < 4 → Has g r (does (kernel.par all) ∷ rest) z → IsAt g r z pc regs → z.hand ≡ Some (nothing_acquired (branch_count others)) → Leads g r (cost g r) j z
     leads_there core has here is =
         let slaves = branch_count others in
         let opens = piece.opens in
-        let Q : Hand → CoreState → Type 0 = λ hand b.
-        (c : CoreState) → KeptHand (relied g r) r.thread hand b c → SetsOff (home g r) (relied g r) (plan g r).first_stack r.thread (running r.tie pc regs) z.core.words piece.starts opens.place (pc + length opens.lines) hand c in
+        let Q : Acquired → CoreState → Type 0 = λ hand b.
+        (c : CoreState) → KeepsAcquired (relied g r) r.thread hand b c → SetsOff (home g r) (relied g r) (plan g r).first_stack r.thread (running r.tie pc regs) z.core.words piece.starts opens.place (pc + length opens.lines) hand c in
         let way = opens.opens.by (home g r) (relied g r) r.thread (running r.tie pc regs) piece.starts z.core core opens.as_many opens.stand (runs_at g r z pc regs here) in
         let le : 7 * slaves + 9 ≤ cost g r = let counted = fits.1 in omega arith in
         leads_more g r (Turns g r j) (7 * slaves + 9) (cost g r) z le
@@ -133,7 +133,7 @@ module _ (g : Setting) (r : Runner) (ss : kernel.Statements) (pos : Pos) (b : ke
         let off = reached.there y.core (hand_kept g r reached.hand x y reached.in_hand k) in
         let off' = subst (λ p. SetsOff (home g r) (relied g r) (plan g r).first_stack r.thread (running r.tie pc regs) z.core.words piece.starts opens.place p reached.hand y.core) (sym opens.end) off in
         turn.begins (sets_off y reached.hand (k.hand ∙ reached.in_hand) (has_kept g r (does (kernel.par all) ∷ rest) x y k reached.has) off'))
-        (hand_leads g r Q (does (kernel.par all) ∷ rest) (7 * slaves + 9) z (empty_hand slaves) is (at_runs g r z pc regs here) has way))
+        (hand_leads g r Q (does (kernel.par all) ∷ rest) (7 * slaves + 9) z (nothing_acquired slaves) is (at_runs g r z pc regs here) has way))
 
 -- from its code to that instruction
 pub par_leads : (g : Setting) (r : Runner) → r.core < 4 → (bs : kernel.Branches) → HasSeveral bs → StatementLeads g r (kernel.par bs)

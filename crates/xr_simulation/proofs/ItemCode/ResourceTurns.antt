@@ -30,7 +30,7 @@ use Rattle.xc_meaning.specs.States.Items.{Item, does}
 use Rattle.xc_meaning.specs.States.Branches.{Branch}
 use Rattle.xc_meaning.specs.States.Worlds.{World, go, take, default, only_if}
 use Rattle.xl_expr.specs.PartSteps.{KeptParts, WithinParts}
-use Rattle.xl_expr.specs.ResourceParts.{OtherPartsStay, part_of, timer_alone}
+use Rattle.xl_expr.specs.ResourceParts.{OtherPartsStay, resource_state, timer_alone}
 use Rattle.xl_expr.specs.Works as works
 use Rattle.xl_expr.proofs.Lists.{get_set_same, get_set_other}
 use Rattle.xl_expr.proofs.ResourceParts.{enabled_same, others_fewer, others_of_port}
@@ -53,10 +53,10 @@ others_of_timer : (t n : ℕ) (a b : CoreState) → ((m : ℕ) → (m ≡ n → 
 others_of_timer t n a b others ports events = record {
   parts = by;
   enabled = λ u res ne m h. enabled_same u a.events b.events res events h;
-  strangers = λ u res ne h. enabled_same u b.events a.events res (sym events) h;
+  no_more_enabled = λ u res ne h. enabled_same u b.events a.events res (sym events) h;
 }
   where
-    by : (res : Res) → (timer_alone n res → ⊥) → part_of b res ≡ part_of a res
+    by : (res : Res) → (timer_alone n res → ⊥) → resource_state b res ≡ resource_state a res
     by (ResPort q) ne =
         ap (λ l. record { port = slice_get l q; timer = None; vector = vector_of b.events (ResPort q) }) ports
         ∙ ap (λ e. record { port = slice_get a.ports q; timer = None; vector = vector_of e (ResPort q) }) events

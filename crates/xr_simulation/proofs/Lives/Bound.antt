@@ -13,7 +13,7 @@ use Rattle.xc_meaning.specs.States.Branches.{Branch, Mode, ended, erred, runs, w
 use Rattle.xc_meaning.specs.States.Channels.{Side}
 use Rattle.xc_meaning.specs.States.Items.{Item}
 use Rattle.xc_meaning.specs.Texts.Roots.{Root}
-use Rattle.xl_par.specs.Hands.{Hand, IsAmong}
+use Rattle.xl_par.specs.Acquired.{Acquired, IsAmong}
 use Rattle.xr_match.specs.Implements.{StepsAreBounded}
 use Rattle.xr_match.specs.Lives.{Watched, in_use, of_root, watched_start}
 use Rattle.xr_match.specs.Meanings.{of_kernel, root_among}
@@ -22,7 +22,7 @@ use Rattle.xr_match.specs.Systems.{SomeIs}
 use Rattle.xr_simulation.specs.Images.{IsImageOf, IsRootRole}
 use Rattle.xr_simulation.specs.Living.{AreBornBelow, AreNamed, pars_of}
 use Rattle.xr_simulation.specs.Parents.{Parent}
-use Rattle.xr_simulation.specs.Roles.{HandFits, Role, Roles, empty, gives_back, got_by, opens, unused, used_by}
+use Rattle.xr_simulation.specs.Roles.{AcquiredFits, Role, Roles, empty, gives_back, got_by, opens, unused, used_by}
 use Rattle.xr_simulation.specs.Runners.{Setting, Runner}
 use Rattle.xr_simulation.specs.ThreadViews.{held_in, sync_in}
 use Rattle.xr_simulation.specs.Standing.{Stand, Standing, Stands, ThreadIs}
@@ -51,7 +51,7 @@ waiting_in_use n None h = absurd h
 waiting_in_use n (Some x) h = there_in_use (Some x) x refl (ap is_unused h.waits)
 
 -- a hand that holds threads has a synchroniser to which they are tied
-held_sync : (items : List Item) (hand : Option Hand) (u : ℕ) → HandFits items hand → IsAmong (held_in hand) u → (n : ℕ) × (sync_in hand ≡ Some n)
+held_sync : (items : List Item) (hand : Option Acquired) (u : ℕ) → AcquiredFits items hand → IsAmong (held_in hand) u → (n : ℕ) × (sync_in hand ≡ Some n)
 held_sync items hand u (empty e) m = absurd (subst (λ o. IsAmong (held_in o) u) e m)
 held_sync items hand u (gives_back n e) m = absurd (subst (λ o. IsAmong (held_in o) u) e m)
 held_sync items hand u (opens h bs rest e is sum several none) m = by_sync h.sync refl
@@ -62,7 +62,7 @@ held_sync items hand u (opens h bs rest e is sum several none) m = by_sync h.syn
 
 module _ (g : Setting) (may_rest : (core thread : ℕ) → Bool) (who : Roles) (w : Watched) (x : Told (of_kernel g.program)) (st : Standing g may_rest who w x) (c : ℕ) (a : CoreState) (at_c : slice_get w.machine.cores c ≡ Some a) where
   -- how the thread of a runner stands
-  pub stand_of : (t : ℕ) (r : Runner) (hand : Option Hand) → who c t ≡ used_by r hand → (branch : Branch) × (slice_get x.state.branches r.branch ≡ Some branch) × Stand g r (may_rest c t) hand a x.state (w.lives c t) x.actions branch
+  pub stand_of : (t : ℕ) (r : Runner) (hand : Option Acquired) → who c t ≡ used_by r hand → (branch : Branch) × (slice_get x.state.branches r.branch ≡ Some branch) × Stand g r (may_rest c t) hand a x.state (w.lives c t) x.actions branch
   stand_of t r hand e = there (slice_get x.state.branches r.branch) refl (subst (Stands g (may_rest c t) a x.state (w.lives c t) x.actions) e (st.threads c t a at_c))
     where
       there : (o : Option Branch) → slice_get x.state.branches r.branch ≡ o → SomeIs o (Stand g r (may_rest c t) hand a x.state (w.lives c t) x.actions) →
@@ -88,7 +88,7 @@ module _ (g : Setting) (may_rest : (core thread : ℕ) → Bool) (who : Roles) (
   in_use_now t ne = in_use_by_role t (who c t) refl ne
 
   -- a runner's family is that of a branch that is there
-  pub steps_within : (t : ℕ) (r : Runner) (hand : Option Hand) → who c t ≡ used_by r hand → (w.lives c t).steps ≤ kernel_bound g.program * (x.actions r.family + 1)
+  pub steps_within : (t : ℕ) (r : Runner) (hand : Option Acquired) → who c t ≡ used_by r hand → (w.lives c t).steps ≤ kernel_bound g.program * (x.actions r.family + 1)
   steps_within t r hand e = let stand = stand_of t r hand e in let b = stand.2.bound in omega (arith, b)
 
 -- a core by its number

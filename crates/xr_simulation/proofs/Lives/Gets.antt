@@ -5,7 +5,7 @@ use Rattle.std.proofs.lemmas.Bool.{cases_eq}
 use Rattle.std.proofs.lemmas.Option.{same_Some}
 use Rattle.xs_instr.specs.declared.state.CoreState.{CoreState}
 use Rattle.xs_instr.specs.Machine.{Machine}
-use Rattle.xl_par.specs.Hands.{Hand, with_sync, with_thread_got}
+use Rattle.xl_par.specs.Acquired.{Acquired, with_sync, with_thread_got}
 use Rattle.xr_match.specs.Lives.{Family, Life, Watched, child_family, child_of, is_tied, life_after, of_child, tie_of, tying_of}
 use Rattle.xr_match.specs.Meanings.{of_kernel}
 use Rattle.xr_match.specs.Sources.{Told}
@@ -28,22 +28,22 @@ has_some zero l le = absurd (omega arith)
 has_some (suc k) l le = refl
 
 -- a hand with no synchroniser opens none
-pub opened_none : (h : Hand) → h.sync ≡ None → opened (Some h) ≡ 0
+pub opened_none : (h : Acquired) → h.sync ≡ None → opened (Some h) ≡ 0
 opened_none h e = ap (λ s. opens_by s (some_more (length h.threads) h.lacks)) e
 
 -- one with a synchroniser, and with threads that it has or lacks, opens one
-pub opened_one : (h : Hand) (n : ℕ) → h.sync ≡ Some n → some_more (length h.threads) h.lacks ≡ true → opened (Some h) ≡ 1
+pub opened_one : (h : Acquired) (n : ℕ) → h.sync ≡ Some n → some_more (length h.threads) h.lacks ≡ true → opened (Some h) ≡ 1
 opened_one h n e more = ap (λ s. opens_by s (some_more (length h.threads) h.lacks)) e ∙ ap (opens_by (Some n)) more
 
 -- what is so of the threads that were got, and of the synchroniser
-abbrev pub IsTyingOf : (lives : ℕ → Life) (life : Life) (name : Family) (par : ℕ) (h : Hand) (n : ℕ) → Type 0
+abbrev pub IsTyingOf : (lives : ℕ → Life) (life : Life) (name : Family) (par : ℕ) (h : Acquired) (n : ℕ) → Type 0
 IsTyingOf lives life name par h n = (life.tyings n ≡ Some (record { par = par; tied = length h.threads })) × AreKidsOf lives name par h.threads
 
-pub tying_at : (lives : ℕ → Life) (life : Life) (name : Family) (par : ℕ) (h : Hand) (n : ℕ) → h.sync ≡ Some n → IsTyingOf lives life name par h n →
-    (held : Hand) (m : ℕ) → Some h ≡ Some held → held.sync ≡ Some m → IsTyingOf lives life name par held m
+pub tying_at : (lives : ℕ → Life) (life : Life) (name : Family) (par : ℕ) (h : Acquired) (n : ℕ) → h.sync ≡ Some n → IsTyingOf lives life name par h n →
+    (held : Acquired) (m : ℕ) → Some h ≡ Some held → held.sync ≡ Some m → IsTyingOf lives life name par held m
 tying_at lives life name par h n is so held m e sync =
     let same = same_Some h held e in
-    let number : n ≡ m = same_Some n m (sym is ∙ ap (λ (i : Hand). i.sync) same ∙ sync) in
+    let number : n ≡ m = same_Some n m (sym is ∙ ap (λ (i : Acquired). i.sync) same ∙ sync) in
     subst (IsTyingOf lives life name par held) number (subst (λ i. IsTyingOf lives life name par i n) same so)
 
 -- one of two places, or neither
@@ -58,7 +58,7 @@ by_place c t c' t' P here there =
     (λ (ne : c' ≢ c). there (λ h. ne h.0))
     (cases_eq c' c)
 
-module _ (g : Setting) (who who' : Roles) (w : Watched) (m' : Machine) (x x' : Told (of_kernel g.program)) (roles : AreRoles g who) (named : AreNamed g who w x) (longer : Lengthens g x x') (pars : (f : ℕ) → pars_of f x'.state.branches ≡ pars_of f x.state.branches) (c t : ℕ) (a b : CoreState) (at_a : slice_get w.machine.cores c ≡ Some a) (at_b : slice_get m'.cores c ≡ Some b) (r : Runner) (h : Hand) (runs : who c t ≡ used_by r (Some h)) (n : ℕ) where
+module _ (g : Setting) (who who' : Roles) (w : Watched) (m' : Machine) (x x' : Told (of_kernel g.program)) (roles : AreRoles g who) (named : AreNamed g who w x) (longer : Lengthens g x x') (pars : (f : ℕ) → pars_of f x'.state.branches ≡ pars_of f x.state.branches) (c t : ℕ) (a b : CoreState) (at_a : slice_get w.machine.cores c ≡ Some a) (at_b : slice_get m'.cores c ≡ Some b) (r : Runner) (h : Acquired) (runs : who c t ≡ used_by r (Some h)) (n : ℕ) where
   -- the lives behind the step
   abbrev w' : Watched
   w' = record { machine = m'; lives = life_after w m' c t }

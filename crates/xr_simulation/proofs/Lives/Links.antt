@@ -14,7 +14,7 @@ use Rattle.xc_meaning.specs.Settings.Par.{all_begun}
 use Rattle.xc_meaning.specs.States.Branches.{Branch}
 use Rattle.xc_meaning.specs.States.Items.{Item}
 use Rattle.xc_meaning.specs.States.Worlds.{World, Action}
-use Rattle.xl_par.specs.Hands.{Hand, IsAmong, with_sync, with_thread_got}
+use Rattle.xl_par.specs.Acquired.{Acquired, IsAmong, with_sync, with_thread_got}
 use Rattle.xl_ends.specs.Ends.{Sides}
 use Rattle.xr_match.specs.Lives.{Watched, life_after}
 use Rattle.xr_match.specs.Meanings.{of_kernel}
@@ -82,7 +82,7 @@ begun_of_index who c from (v ∷ vs) once by =
 
 module _ (g : Setting) (may_rest : (core thread : ℕ) → Bool) (who : Roles) (w : Watched) (x : Told (of_kernel g.program)) (st : Standing g may_rest who w x) (named : AreNamed g who w x) where
   -- A piece of the program's run alone, by which one runner goes on.
-  pub settles_linked : (c t : ℕ) (r s : Runner) (hand hand' : Option Hand) → who c t ≡ used_by r hand → s.family ≡ r.family → HandStays hand hand' → (x' : Told (of_kernel g.program)) → Goes g x x' → AreNamed g (with_role who c t (used_by s hand')) w x'
+  pub settles_linked : (c t : ℕ) (r s : Runner) (hand hand' : Option Acquired) → who c t ≡ used_by r hand → s.family ≡ r.family → HandStays hand hand' → (x' : Told (of_kernel g.program)) → Goes g x x' → AreNamed g (with_role who c t (used_by s hand')) w x'
   settles_linked c t r s hand hand' runs_r family stays x' goes =
       settled_named g who (with_role who c t (used_by s hand')) w w x x' st.roles named goes.longer (λ d u. refl) goes.pars
       (λ d u.
@@ -144,7 +144,7 @@ module _ (g : Setting) (may_rest : (core thread : ℕ) → Bool) (who : Roles) (
         ])
 
     -- The branches of a `par` are set off.
-    pub opens_linked : (h : Hand) (runs_r : who c t ≡ used_by r (Some h)) (n : ℕ) (sync_is : h.sync ≡ Some n) (first rest : List Item) (items_of : (index : ℕ) → List Item) (sides_of : (index : ℕ) → Sides) (branch : Branch) (bs : kernel.Branches) (left : List Item) (piece : List Action) (own_thread : Thread) →
+    pub opens_linked : (h : Acquired) (runs_r : who c t ≡ used_by r (Some h)) (n : ℕ) (sync_is : h.sync ≡ Some n) (first rest : List Item) (items_of : (index : ℕ) → List Item) (sides_of : (index : ℕ) → Sides) (branch : Branch) (bs : kernel.Branches) (left : List Item) (piece : List Action) (own_thread : Thread) →
         slice_get x.state.branches r.branch ≡ Some branch → length (all_begun bs) ≡ 1 + length h.threads → 1 ≤ length h.threads → b.syncs ≡ a.syncs → b.threads ≡ slice_set (all_started a.threads n) t own_thread →
         ((u : ℕ) (i : Thread) → slice_get a.threads u ≡ Some i → is_tied i n ≡ true → IsAmong h.threads u) →
         AreNamed g (opens g who c t st.roles r h runs_r n sync_is (length x.state.branches) first rest items_of sides_of) w' (told_by g.program g.stimulus x piece (opened g.program g.stimulus r.branch x.state branch bs left))
@@ -176,17 +176,17 @@ module _ (g : Setting) (may_rest : (core thread : ℕ) → Bool) (who : Roles) (
     abbrev w'' : Watched
     w'' = record { machine = m'; lives = life_after w m' c t }
 
-    pub keeps_linked : (hand : Option Hand) → who c t ≡ used_by r hand → z.core.syncs ≡ y.core.syncs → length z.core.threads ≡ length y.core.threads → SameUse g r y z → AreNamed g who w'' x'
+    pub keeps_linked : (hand : Option Acquired) → who c t ≡ used_by r hand → z.core.syncs ≡ y.core.syncs → length z.core.threads ≡ length y.core.threads → SameUse g r y z → AreNamed g who w'' x'
     keeps_linked hand runs_r syncs as_many same =
         keeps_named g may_rest who who w m' x x' st named goes c t y z at_a at_b r hand hand runs_r refl syncs as_many same runs_r (λ d u ne. refl)
 
-    pub gets_sync_linked : (h : Hand) (n : ℕ) → who c t ≡ used_by r (Some h) → h.sync ≡ None → slice_get y.core.syncs n ≡ Some false → z.core.syncs ≡ slice_set y.core.syncs n true → length z.core.threads ≡ length y.core.threads → SameUse g r y z →
+    pub gets_sync_linked : (h : Acquired) (n : ℕ) → who c t ≡ used_by r (Some h) → h.sync ≡ None → slice_get y.core.syncs n ≡ Some false → z.core.syncs ≡ slice_set y.core.syncs n true → length z.core.threads ≡ length y.core.threads → SameUse g r y z →
         AreNamed g (with_role who c t (used_by r (Some (with_sync h n)))) w'' x'
     gets_sync_linked h n runs_r none free syncs as_many same =
         let role = used_by r (Some (with_sync h n)) in
         gets_sync_named g may_rest who (with_role who c t role) w m' x x' st named goes c t y z at_a at_b r h n runs_r none free syncs as_many same (role_here who c t role) (with_role_others who c t role)
 
-    pub gets_thread_linked : (h : Hand) (n u : ℕ) (i : Thread) (runs_r : who c t ≡ used_by r (Some h)) (free : who c u ≡ unused) (few : u < 8) (inside : u < threads_on g.program c) → h.sync ≡ Some n → 1 ≤ h.lacks → first_free (threads_taken y.core.threads) 0 ≡ Some u → slice_get y.core.threads u ≡ Some i →
+    pub gets_thread_linked : (h : Acquired) (n u : ℕ) (i : Thread) (runs_r : who c t ≡ used_by r (Some h)) (free : who c u ≡ unused) (few : u < 8) (inside : u < threads_on g.program c) → h.sync ≡ Some n → 1 ≤ h.lacks → first_free (threads_taken y.core.threads) 0 ≡ Some u → slice_get y.core.threads u ≡ Some i →
         z.core.syncs ≡ y.core.syncs → slice_get z.core.threads u ≡ Some (tied_to n i) → ((v : ℕ) → v ≢ r.thread → v ≢ u → slice_get z.core.threads v ≡ slice_get y.core.threads v) →
         AreNamed g (seating.gets g who c t u st.roles r h runs_r free few inside) w'' x'
     gets_thread_linked h n u i runs_r free few inside is lacks first there syncs tied others =

@@ -10,7 +10,7 @@ use Rattle.xs_instr.specs.Pool.{all_joined, all_started, is_tied}
 use Rattle.xc_meaning.specs.Counts.KernelCounts.{kernel_bound}
 use Rattle.xc_meaning.specs.States.Branches.{Branch}
 use Rattle.xc_meaning.specs.States.Worlds.{World}
-use Rattle.xl_par.specs.Hands.{Hand, IsAmong}
+use Rattle.xl_par.specs.Acquired.{Acquired, IsAmong}
 use Rattle.xr_match.specs.Lives.{Watched, in_use, life_after}
 use Rattle.xr_match.specs.Meanings.{of_kernel}
 use Rattle.xr_match.specs.Sources.{Told}
@@ -45,7 +45,7 @@ gives_back_stays n = inr (refl, refl)
 pub joins_stays : (n : ℕ) → HandStays None (giving_back n)
 joins_stays n = inr (refl, refl)
 
-module _ (g : Setting) (may_rest : (core thread : ℕ) → Bool) (who who' : Roles) (w : Watched) (m' : Machine) (x x' : Told (of_kernel g.program)) (st : Standing g may_rest who w x) (named : AreNamed g who w x) (c t : ℕ) (a b : CoreState) (at_a : slice_get w.machine.cores c ≡ Some a) (at_b : slice_get m'.cores c ≡ Some b) (r : Runner) (hand : Option Hand) (runs : who c t ≡ used_by r hand) where
+module _ (g : Setting) (may_rest : (core thread : ℕ) → Bool) (who who' : Roles) (w : Watched) (m' : Machine) (x x' : Told (of_kernel g.program)) (st : Standing g may_rest who w x) (named : AreNamed g who w x) (c t : ℕ) (a b : CoreState) (at_a : slice_get w.machine.cores c ≡ Some a) (at_b : slice_get m'.cores c ≡ Some b) (r : Runner) (hand : Option Acquired) (runs : who c t ≡ used_by r hand) where
   abbrev w' : Watched
   w' = record { machine = m'; lives = life_after w m' c t }
 
@@ -54,7 +54,7 @@ module _ (g : Setting) (may_rest : (core thread : ℕ) → Bool) (who who' : Rol
   own_in_use = in_use_now g may_rest who w x st c a at_a t (λ e. let both : used_by r hand ≡ unused = sym runs ∙ e in cc)
 
   -- The thread goes on for its family, and only its own thread is another: its own instruction, a trap, or a tied thread that waits.
-  pub goes_named : Goes g x x' → b.syncs ≡ a.syncs → ((u : ℕ) → u ≢ t → slice_get b.threads u ≡ slice_get a.threads u) → (r' : Runner) (hand' : Option Hand) → who' c t ≡ used_by r' hand' → r'.family ≡ r.family → HandStays hand hand' →
+  pub goes_named : Goes g x x' → b.syncs ≡ a.syncs → ((u : ℕ) → u ≢ t → slice_get b.threads u ≡ slice_get a.threads u) → (r' : Runner) (hand' : Option Acquired) → who' c t ≡ used_by r' hand' → r'.family ≡ r.family → HandStays hand hand' →
       ((c' t' : ℕ) → ((c' ≡ c) × (t' ≡ t) → ⊥) → who' c' t' ≡ who c' t') → AreNamed g who' w' x'
   goes_named goes syncs threads r' hand' own family stays others =
       step_named g who who' w m' x x' st.roles named goes.longer c t a b at_a at_b r hand runs (gets_nothing a b t syncs own_in_use threads) goes.pars
@@ -69,22 +69,22 @@ module _ (g : Setting) (may_rest : (core thread : ℕ) → Bool) (who who' : Rol
       (inr (own, pays_for (w.lives c t).steps stand.2.left (kernel_bound g.program) (x.actions r.family) (x'.actions r.family) (omega arith) stand.2.bound acted)) (λ c' t' ne. inl (others c' t' ne))
 
   -- A synchroniser is given back.
-  pub resumed_named : (n : ℕ) → Goes g x x' → slice_get a.syncs n ≡ Some true → b.syncs ≡ slice_set a.syncs n false → ((u : ℕ) → u ≢ t → slice_get b.threads u ≡ slice_get a.threads u) → (r' : Runner) (hand' : Option Hand) → who' c t ≡ used_by r' hand' → r'.family ≡ r.family → HandStays hand hand' →
+  pub resumed_named : (n : ℕ) → Goes g x x' → slice_get a.syncs n ≡ Some true → b.syncs ≡ slice_set a.syncs n false → ((u : ℕ) → u ≢ t → slice_get b.threads u ≡ slice_get a.threads u) → (r' : Runner) (hand' : Option Acquired) → who' c t ≡ used_by r' hand' → r'.family ≡ r.family → HandStays hand hand' →
       ((c' t' : ℕ) → ((c' ≡ c) × (t' ≡ t) → ⊥) → who' c' t' ≡ who c' t') → AreNamed g who' w' x'
   resumed_named n goes taken syncs threads r' hand' own family stays others =
       step_named g who who' w m' x x' st.roles named goes.longer c t a b at_a at_b r hand runs (gives_sync a b t n taken syncs own_in_use threads) goes.pars
       (inl (record { runner = r'; left_in_hand = hand'; is = own; family = family; stays = stays })) (λ c' t' ne. inl (others c' t' ne))
 
   -- The threads that are tied to a synchroniser are joined: some roles end.
-  pub joined_named : (n : ℕ) (own_thread : Thread) → Goes g x x' → b.syncs ≡ a.syncs → b.threads ≡ slice_set (all_joined a.threads n) t own_thread → (r' : Runner) (hand' : Option Hand) → who' c t ≡ used_by r' hand' → r'.family ≡ r.family → HandStays hand hand' →
-      ((c' t' : ℕ) → ((c' ≡ c) × (t' ≡ t) → ⊥) → (who' c' t' ≡ who c' t') ⊎ ((c' ≡ c) × (who' c' t' ≡ unused) × ((s : Runner) × (other : Option Hand) × (who c' t' ≡ used_by s other)))) → AreNamed g who' w' x'
+  pub joined_named : (n : ℕ) (own_thread : Thread) → Goes g x x' → b.syncs ≡ a.syncs → b.threads ≡ slice_set (all_joined a.threads n) t own_thread → (r' : Runner) (hand' : Option Acquired) → who' c t ≡ used_by r' hand' → r'.family ≡ r.family → HandStays hand hand' →
+      ((c' t' : ℕ) → ((c' ≡ c) × (t' ≡ t) → ⊥) → (who' c' t' ≡ who c' t') ⊎ ((c' ≡ c) × (who' c' t' ≡ unused) × ((s : Runner) × (other : Option Acquired) × (who c' t' ≡ used_by s other)))) → AreNamed g who' w' x'
   joined_named n own_thread goes syncs threads r' hand' own family stays others =
       step_named g who who' w m' x x' st.roles named goes.longer c t a b at_a at_b r hand runs (joins_tied a b t n own_thread syncs own_in_use threads) goes.pars
       (inl (record { runner = r'; left_in_hand = hand'; is = own; family = family; stays = stays }))
       (λ c' t' ne.
       ⊎_elim
       (λ (same : who' c' t' ≡ who c' t'). inl same)
-      (λ (h : (c' ≡ c) × (who' c' t' ≡ unused) × ((s : Runner) × (other : Option Hand) × (who c' t' ≡ used_by s other))).
+      (λ (h : (c' ≡ c) × (who' c' t' ≡ unused) × ((s : Runner) × (other : Option Acquired) × (who c' t' ≡ used_by s other))).
       let here : who c t' ≡ used_by h.2.0 h.2.1 = ap (λ k. who k t') (sym h.0) ∙ h.2.2 in
       inr
       (record {
@@ -99,7 +99,7 @@ module _ (g : Setting) (may_rest : (core thread : ℕ) → Bool) (who who' : Rol
       (others c' t' ne))
 
 -- a runner's family is there
-pub family_there : (g : Setting) (may_rest : (core thread : ℕ) → Bool) (who : Roles) (w : Watched) (x : Told (of_kernel g.program)) → Standing g may_rest who w x → (c t : ℕ) (a : CoreState) → slice_get w.machine.cores c ≡ Some a → (r : Runner) (hand : Option Hand) →
+pub family_there : (g : Setting) (may_rest : (core thread : ℕ) → Bool) (who : Roles) (w : Watched) (x : Told (of_kernel g.program)) → Standing g may_rest who w x → (c t : ℕ) (a : CoreState) → slice_get w.machine.cores c ≡ Some a → (r : Runner) (hand : Option Acquired) →
     who c t ≡ used_by r hand → r.family < length x.state.branches
 family_there g may_rest who w x st c t a at_a r hand runs =
     let stand = stand_of g may_rest who w x st c a at_a t r hand runs in
@@ -109,7 +109,7 @@ family_there g may_rest who w x st c t a at_a r hand runs =
     omega (arith, there, started)
 
 -- A `par` of several branches begins.
-module _ (g : Setting) (may_rest : (core thread : ℕ) → Bool) (who who' : Roles) (w : Watched) (m' : Machine) (x x' : Told (of_kernel g.program)) (st : Standing g may_rest who w x) (named : AreNamed g who w x) (c t : ℕ) (a b : CoreState) (at_a : slice_get w.machine.cores c ≡ Some a) (at_b : slice_get m'.cores c ≡ Some b) (r : Runner) (h : Hand) (runs : who c t ≡ used_by r (Some h)) (n : ℕ) (is : h.sync ≡ Some n) where
+module _ (g : Setting) (may_rest : (core thread : ℕ) → Bool) (who who' : Roles) (w : Watched) (m' : Machine) (x x' : Told (of_kernel g.program)) (st : Standing g may_rest who w x) (named : AreNamed g who w x) (c t : ℕ) (a b : CoreState) (at_a : slice_get w.machine.cores c ≡ Some a) (at_b : slice_get m'.cores c ≡ Some b) (r : Runner) (h : Acquired) (runs : who c t ≡ used_by r (Some h)) (n : ℕ) (is : h.sync ≡ Some n) where
   pub started_named : (own_thread : Thread) → b.syncs ≡ a.syncs → b.threads ≡ slice_set (all_started a.threads n) t own_thread → ((u : ℕ) (i : Thread) → slice_get a.threads u ≡ Some i → is_tied i n ≡ true → IsAmong h.threads u) →
       ((f : ℕ) → x.actions f ≤ x'.actions f) → (more : List Branch) (count : ℕ) → Grown x.state.branches x'.state.branches more → AreBornOf r.family count 0 more → 2 ≤ count → 1 + length h.threads ≡ count →
       (r' : Runner) → who' c t ≡ used_by r' None → r'.family ≡ r.family → AreBegun who' c (length x.state.branches) h.threads →

@@ -6,7 +6,7 @@ use Rattle.std.proofs.lemmas.Bool.{cases_eq}
 use Rattle.xs_instr.specs.declared.state.CoreState.{CoreState}
 use Rattle.xs_instr.specs.Machine.{Machine}
 use Rattle.xc_meaning.specs.Counts.KernelCounts.{kernel_bound}
-use Rattle.xl_par.specs.Hands.{Hand}
+use Rattle.xl_par.specs.Acquired.{Acquired}
 use Rattle.xr_match.specs.Lives.{Life, Watched, life_after}
 use Rattle.xr_match.specs.Meanings.{of_kernel}
 use Rattle.xr_match.specs.Sources.{Told, actions_of}
@@ -17,7 +17,7 @@ use Rattle.xr_simulation.proofs.Lives.Quiet.{GetsNothing, HandStays, IsLike, IsN
 use Rattle.xr_simulation.proofs.Lives.Names.{other_is, own_family, own_pars_same, own_steps, own_tying_same}
 
 -- a life that is over: its family's bound stands
-pub over_from : (g : Setting) (x x' : Told (of_kernel g.program)) (longer : Lengthens g x x') (lives : ℕ → Life) (life life' : Life) (r : Runner) (hand : Option Hand) → IsNamed g lives life x r hand → life'.family ≡ life.family →
+pub over_from : (g : Setting) (x x' : Told (of_kernel g.program)) (longer : Lengthens g x x') (lives : ℕ → Life) (life life' : Life) (r : Runner) (hand : Option Acquired) → IsNamed g lives life x r hand → life'.family ≡ life.family →
     life'.steps ≤ kernel_bound g.program * (x'.actions r.family + 1) → IsNamedRole g lives life' x' unused
 over_from g x x' longer lives life life' r hand h same bound =
     let e : actions_of (of_kernel g.program) x' life'.family ≡ x'.actions r.family =
@@ -37,7 +37,7 @@ role_same (got_by t) = tt
 role_same (used_by r hand) = (refl, inl refl)
 
 -- a thread that was got runs nothing yet
-pub got_not_used : (who : Roles) (c t c' u v : ℕ) (r : Runner) (hand : Option Hand) → who c t ≡ used_by r hand → who c' u ≡ got_by v → (c' ≡ c) × (u ≡ t) → ⊥
+pub got_not_used : (who : Roles) (c t c' u v : ℕ) (r : Runner) (hand : Option Acquired) → who c t ≡ used_by r hand → who c' u ≡ got_by v → (c' ≡ c) × (u ≡ t) → ⊥
 got_not_used who c t c' u v r hand runs got same =
     let both : got_by v ≡ used_by r hand = sym got ∙ ap (λ k. who k u) same.0 ∙ ap (who c) same.1 ∙ runs in cc
 
@@ -64,20 +64,20 @@ module _ (g : Setting) (who who' : Roles) (w w' : Watched) (x x' : Told (of_kern
 -- A thread that ran a branch is unused, and its life is over.
 pub record EndsAt (g : Setting) (who who' : Roles) (w : Watched) (x : Told (of_kernel g.program)) (c t : ℕ) : Type 0 where
   pub runner : Runner
-  pub hand : Option Hand
+  pub hand : Option Acquired
   pub was : who c t ≡ used_by runner hand
   pub is : who' c t ≡ unused
   pub bound : (w.lives c t).steps ≤ kernel_bound g.program * (x.actions runner.family + 1)
 
 -- A thread goes on, for the same family.
-pub record GoesOn (who' : Roles) (c t : ℕ) (r : Runner) (hand : Option Hand) : Type 0 where
+pub record GoesOn (who' : Roles) (c t : ℕ) (r : Runner) (hand : Option Acquired) : Type 0 where
   pub runner : Runner
-  pub left_in_hand : Option Hand
+  pub left_in_hand : Option Acquired
   pub is : who' c t ≡ used_by runner left_in_hand
   pub family : runner.family ≡ r.family
   pub stays : HandStays hand left_in_hand
 
-module _ (g : Setting) (who who' : Roles) (w : Watched) (m' : Machine) (x x' : Told (of_kernel g.program)) (roles : AreRoles g who) (named : AreNamed g who w x) (longer : Lengthens g x x') (c t : ℕ) (a b : CoreState) (at_a : slice_get w.machine.cores c ≡ Some a) (at_b : slice_get m'.cores c ≡ Some b) (r : Runner) (hand : Option Hand) (runs : who c t ≡ used_by r hand) (nothing : GetsNothing a b) (pars : (f : ℕ) → pars_of f x'.state.branches ≡ pars_of f x.state.branches) where
+module _ (g : Setting) (who who' : Roles) (w : Watched) (m' : Machine) (x x' : Told (of_kernel g.program)) (roles : AreRoles g who) (named : AreNamed g who w x) (longer : Lengthens g x x') (c t : ℕ) (a b : CoreState) (at_a : slice_get w.machine.cores c ≡ Some a) (at_b : slice_get m'.cores c ≡ Some b) (r : Runner) (hand : Option Acquired) (runs : who c t ≡ used_by r hand) (nothing : GetsNothing a b) (pars : (f : ℕ) → pars_of f x'.state.branches ≡ pars_of f x.state.branches) where
   -- the lives behind the step
   abbrev w' : Watched
   w' = record { machine = m'; lives = life_after w m' c t }

@@ -7,7 +7,7 @@ use Rattle.xs_instr.specs.declared.state.CoreState.{CoreState}
 use Rattle.xs_instr.specs.Machine.{Machine, and_then}
 use Rattle.xc_meaning.specs.Counts.Families.{child_among, child_family}
 use Rattle.xc_meaning.specs.States.Branches.{Branch}
-use Rattle.xl_par.specs.Hands.{Hand, IsAmong}
+use Rattle.xl_par.specs.Acquired.{Acquired, IsAmong}
 use Rattle.xr_match.specs.Lives.{Life, Watched, life_after, of_child}
 use Rattle.xr_match.specs.Meanings.{family_in, of_kernel}
 use Rattle.xr_match.specs.Sources.{Told}
@@ -27,7 +27,7 @@ outermost_among b [] = inl refl
 outermost_among b (p ∷ ps) = inr (outermost_among p.branch ps)
 
 -- two threads run branches of different families
-pub families_differ : (g : Setting) (who : Roles) → AreRoles g who → (c t c' t' : ℕ) (r s : Runner) (hand other : Option Hand) → who c t ≡ used_by r hand → who c' t' ≡ used_by s other → s.family ≡ r.family → (c' ≡ c) × (t' ≡ t)
+pub families_differ : (g : Setting) (who : Roles) → AreRoles g who → (c t c' t' : ℕ) (r s : Runner) (hand other : Option Acquired) → who c t ≡ used_by r hand → who c' t' ≡ used_by s other → s.family ≡ r.family → (c' ≡ c) × (t' ≡ t)
 families_differ g who roles c t c' t' r s hand other e f same =
     let mine : IsAmong (own_branches r) r.family = subst (IsAmong (own_branches r)) (roles.started c t r hand e) (outermost_among r.branch r.parents) in
     let its : IsAmong (own_branches s) s.family = subst (IsAmong (own_branches s)) (roles.started c' t' s other f) (outermost_among s.branch s.parents) in
@@ -47,7 +47,7 @@ abbrev pub AreBegun : Roles → (core from : ℕ) → (threads : List ℕ) → T
 AreBegun who c from [] = Unit {0}
 AreBegun who c from (u ∷ us) = ((s : Runner) × (who c u ≡ used_by s None) × (s.family ≡ from + (length us + 1))) × AreBegun who c from us
 
-module _ (g : Setting) (who who' : Roles) (w : Watched) (m' : Machine) (x x' : Told (of_kernel g.program)) (roles : AreRoles g who) (named : AreNamed g who w x) (c t : ℕ) (a b : CoreState) (at_a : slice_get w.machine.cores c ≡ Some a) (at_b : slice_get m'.cores c ≡ Some b) (r : Runner) (h : Hand) (runs : who c t ≡ used_by r (Some h)) (nothing : GetsNothing a b) (actions : (f : ℕ) → x.actions f ≤ x'.actions f) (more : List Branch) (count n : ℕ) (grown : Grown x.state.branches x'.state.branches more) (born : AreBornOf r.family count 0 more) (there : r.family < length x.state.branches) (is : h.sync ≡ Some n) (several : 2 ≤ count) (all : 1 + length h.threads ≡ count) where
+module _ (g : Setting) (who who' : Roles) (w : Watched) (m' : Machine) (x x' : Told (of_kernel g.program)) (roles : AreRoles g who) (named : AreNamed g who w x) (c t : ℕ) (a b : CoreState) (at_a : slice_get w.machine.cores c ≡ Some a) (at_b : slice_get m'.cores c ≡ Some b) (r : Runner) (h : Acquired) (runs : who c t ≡ used_by r (Some h)) (nothing : GetsNothing a b) (actions : (f : ℕ) → x.actions f ≤ x'.actions f) (more : List Branch) (count n : ℕ) (grown : Grown x.state.branches x'.state.branches more) (born : AreBornOf r.family count 0 more) (there : r.family < length x.state.branches) (is : h.sync ≡ Some n) (several : 2 ≤ count) (all : 1 + length h.threads ≡ count) where
   -- the lives behind the step
   abbrev w' : Watched
   w' = record { machine = m'; lives = life_after w m' c t }

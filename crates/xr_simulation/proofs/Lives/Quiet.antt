@@ -4,7 +4,7 @@ use Rattle.std.proofs.Math.Nat.{mul-le-mul_left}
 use Rattle.xs_instr.specs.declared.state.CoreState.{CoreState}
 use Rattle.xc_meaning.specs.Counts.KernelCounts.{kernel_bound}
 use Rattle.xc_meaning.specs.States.Branches.{Branch}
-use Rattle.xl_par.specs.Hands.{Hand, IsAmong}
+use Rattle.xl_par.specs.Acquired.{Acquired, IsAmong}
 use Rattle.xr_match.specs.Lives.{Family, Life, Watched}
 use Rattle.xr_match.specs.Meanings.{family_in, of_kernel}
 use Rattle.xr_match.specs.Sources.{Told, actions_by, actions_of}
@@ -58,10 +58,10 @@ pub pars_still : (f : ℕ) (bs bs' more : List Branch) → Grown bs bs' more →
 pars_still f bs bs' more grown none = let e = grown_pars f bs bs' more grown in omega (arith, e, none)
 
 -- a hand goes on being the same, or isn't one that opens a `par`
-abbrev pub HandStays : Option Hand → Option Hand → Type 0
+abbrev pub HandStays : Option Acquired → Option Acquired → Type 0
 HandStays hand hand' = (hand' ≡ hand) ⊎ ((opened hand ≡ 0) × (opened hand' ≡ 0))
 
-pub opened_stays : (hand hand' : Option Hand) → HandStays hand hand' → opened hand' ≡ opened hand
+pub opened_stays : (hand hand' : Option Acquired) → HandStays hand hand' → opened hand' ≡ opened hand
 opened_stays hand hand' h = ⊎_elim (λ e. ap opened e) (λ e. e.1 ∙ sym e.0) h
 
 -- a life of the same names as another
@@ -100,7 +100,7 @@ module _ (g : Setting) (x x' : Told (of_kernel g.program)) (longer : Lengthens g
       let e : n + 1 ≤ m + 1 = omega arith in let k = mul-le-mul_left (kernel_bound g.program) e in omega (arith, h, k)
 
   -- a name goes on
-  pub named_still : (lives lives' : ℕ → Life) (life life' : Life) (r r' : Runner) (hand hand' : Option Hand) → IsNamed g lives life x r hand → IsLike life life' →
+  pub named_still : (lives lives' : ℕ → Life) (life life' : Life) (r r' : Runner) (hand hand' : Option Acquired) → IsNamed g lives life x r hand → IsLike life life' →
       ((u : ℕ) → IsAmong (held_in hand) u → (lives' u).family ≡ (lives u).family) → pars_of r.family x'.state.branches ≡ pars_of r.family x.state.branches →
       r'.family ≡ r.family → HandStays hand hand' → IsNamed g lives' life' x' r' hand'
   named_still lives lives' life life' r r' hand hand' h like kids pars family stays =
@@ -131,7 +131,7 @@ pub record GetsNothing (a b : CoreState) : Type 0 where
 module _ (g : Setting) (who who' : Roles) (w w' : Watched) (x x' : Told (of_kernel g.program)) (roles : AreRoles g who) (named : AreNamed g who w x) (longer : Lengthens g x x') where
   -- a thread whose role and life are as they were
   pub other_named : (c t : ℕ) → w'.lives c t ≡ w.lives c t → ((u v : ℕ) → who c u ≡ got_by v → w'.lives c u ≡ w.lives c u) →
-      ((r : Runner) (hand : Option Hand) → who c t ≡ used_by r hand → pars_of r.family x'.state.branches ≡ pars_of r.family x.state.branches) →
+      ((r : Runner) (hand : Option Acquired) → who c t ≡ used_by r hand → pars_of r.family x'.state.branches ≡ pars_of r.family x.state.branches) →
       (role : Role) → who c t ≡ role → IsNamedRole g (w'.lives c) (w'.lives c t) x' role
   other_named c t same kids pars unused e =
       let old = named.over c t e in

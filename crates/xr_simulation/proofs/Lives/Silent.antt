@@ -8,12 +8,12 @@ use Rattle.xs_instr.specs.Machine.{Machine}
 use Rattle.xs_instr.specs.Pool.{first_free, is_unused, threads_taken, tied_to}
 use Rattle.xc_meaning.specs.Counts.KernelCounts.{branch_count}
 use Rattle.xc_meaning.specs.States.Items.{Item}
-use Rattle.xl_par.specs.Hands.{Hand, IsAmong, with_sync, with_thread_got}
+use Rattle.xl_par.specs.Acquired.{Acquired, IsAmong, with_sync, with_thread_got}
 use Rattle.xr_match.specs.Lives.{Watched, in_use, life_after, tie_of}
 use Rattle.xr_match.specs.Meanings.{of_kernel}
 use Rattle.xr_match.specs.Sources.{Told}
 use Rattle.xr_simulation.specs.Living.{AreNamed}
-use Rattle.xr_simulation.specs.Roles.{HandFits, Role, Roles, empty, gives_back, got_by, opens, unused, used_by}
+use Rattle.xr_simulation.specs.Roles.{AcquiredFits, Role, Roles, empty, gives_back, got_by, opens, unused, used_by}
 use Rattle.xr_simulation.specs.Runners.{Setting, Runner}
 use Rattle.xr_simulation.specs.ThreadViews.{HandChange, SameUse, ThreadView, gets_sync, gets_thread, held_in, keeps}
 use Rattle.xr_simulation.specs.Standing.{Standing}
@@ -27,17 +27,17 @@ use Rattle.xr_simulation.proofs.Lives.Uses.{alike_thread, same_syncs, same_threa
 use Rattle.xr_simulation.proofs.Relation.Pools.{first_unused}
 
 -- a hand that has no synchroniser yet has no threads, and lacks some
-empty_yet : (items : List Item) (h : Hand) → h.sync ≡ None → HandFits items (Some h) → (h.threads ≡ []) × (1 ≤ h.lacks)
+empty_yet : (items : List Item) (h : Acquired) → h.sync ≡ None → AcquiredFits items (Some h) → (h.threads ≡ []) × (1 ≤ h.lacks)
 empty_yet items h none (empty e) = absurd (none-some h (sym e))
 empty_yet items h none (gives_back n e) = let both : None ≡ Some n = sym none ∙ ap sync_of e in absurd (none-some n both)
   where
-    sync_of : Option Hand → Option ℕ
+    sync_of : Option Acquired → Option ℕ
     sync_of None = None
     sync_of (Some i) = i.sync
 empty_yet items h none (opens held bs rest e is sum several none_held) =
     let same : h ≡ held = cc in
-    let no_threads : h.threads ≡ [] = subst (λ (i : Hand). i.sync ≡ None → i.threads ≡ []) (sym same) none_held none in
-    let all : 1 + length h.threads + h.lacks ≡ branch_count bs = subst (λ (i : Hand). 1 + length i.threads + i.lacks ≡ branch_count bs) (sym same) sum in
+    let no_threads : h.threads ≡ [] = subst (λ (i : Acquired). i.sync ≡ None → i.threads ≡ []) (sym same) none_held none in
+    let all : 1 + length h.threads + h.lacks ≡ branch_count bs = subst (λ (i : Acquired). 1 + length i.threads + i.lacks ≡ branch_count bs) (sym same) sum in
     let zero_threads = ap length no_threads in
     (no_threads, omega (arith, all, zero_threads, several))
 
@@ -48,14 +48,14 @@ module _ (g : Setting) (may_rest : (core thread : ℕ) → Bool) (who who' : Rol
   w' = record { machine = m'; lives = life_after w m' c t }
 
   -- the thread was in use
-  own_in_use : (hand : Option Hand) → who c t ≡ used_by r hand → in_use (slice_get y.core.threads t) ≡ true
+  own_in_use : (hand : Option Acquired) → who c t ≡ used_by r hand → in_use (slice_get y.core.threads t) ≡ true
   own_in_use hand runs = in_use_now g may_rest who w x st c y.core at_a t (λ e. let both : used_by r hand ≡ unused = sym runs ∙ e in cc)
 
-  own_thread : (hand : Option Hand) → who c t ≡ used_by r hand → (u : ℕ) → u ≢ t → u ≢ r.thread
+  own_thread : (hand : Option Acquired) → who c t ≡ used_by r hand → (u : ℕ) → u ≢ t → u ≢ r.thread
   own_thread hand runs u ne e = ne (e ∙ st.roles.thread c t r hand runs)
 
   -- no thread was got where all are used as before
-  none_got : (hand : Option Hand) → who c t ≡ used_by r hand → length z.core.threads ≡ length y.core.threads → SameUse g r y z → (u : ℕ) → thread_got y.core z.core u ≡ false
+  none_got : (hand : Option Acquired) → who c t ≡ used_by r hand → length z.core.threads ≡ length y.core.threads → SameUse g r y z → (u : ℕ) → thread_got y.core z.core u ≡ false
   none_got hand runs as_many same u =
       by_case (u_is_own u)
     where
@@ -67,14 +67,14 @@ module _ (g : Setting) (may_rest : (core thread : ℕ) → Bool) (who who' : Rol
       by_case (inr ne) =
           alike_thread y.core z.core as_many u (λ i at. let k = same.by u i (own_thread hand runs u ne) at in (k.0, k.1, k.2))
 
-  pub keeps_named : (hand hand' : Option Hand) → who c t ≡ used_by r hand → hand' ≡ hand → z.core.syncs ≡ y.core.syncs → length z.core.threads ≡ length y.core.threads → SameUse g r y z →
+  pub keeps_named : (hand hand' : Option Acquired) → who c t ≡ used_by r hand → hand' ≡ hand → z.core.syncs ≡ y.core.syncs → length z.core.threads ≡ length y.core.threads → SameUse g r y z →
       who' c t ≡ used_by r hand' → ((c' t' : ℕ) → ((c' ≡ c) × (t' ≡ t) → ⊥) → who' c' t' ≡ who c' t') → AreNamed g who' w' x'
   keeps_named hand hand' runs kept syncs as_many same own others =
       step_named g who who' w m' x x' st.roles named goes.longer c t y.core z.core at_a at_b r hand runs
       (record { syncs = same_syncs y.core z.core syncs; threads = none_got hand runs as_many same }) goes.pars
       (inl (record { runner = r; left_in_hand = hand'; is = own; family = refl; stays = inl kept })) (λ c' t' ne. inl (others c' t' ne))
 
-  pub gets_sync_named : (h : Hand) (n : ℕ) → who c t ≡ used_by r (Some h) → h.sync ≡ None → slice_get y.core.syncs n ≡ Some false → z.core.syncs ≡ slice_set y.core.syncs n true → length z.core.threads ≡ length y.core.threads → SameUse g r y z →
+  pub gets_sync_named : (h : Acquired) (n : ℕ) → who c t ≡ used_by r (Some h) → h.sync ≡ None → slice_get y.core.syncs n ≡ Some false → z.core.syncs ≡ slice_set y.core.syncs n true → length z.core.threads ≡ length y.core.threads → SameUse g r y z →
       who' c t ≡ used_by r (Some (with_sync h n)) → ((c' t' : ℕ) → ((c' ≡ c) × (t' ≡ t) → ⊥) → who' c' t' ≡ who c' t') → AreNamed g who' w' x'
   gets_sync_named h n runs none free syncs as_many same own others =
       let stand = stand_of g may_rest who w x st c y.core at_a t r (Some h) runs in
@@ -84,7 +84,7 @@ module _ (g : Setting) (may_rest : (core thread : ℕ) → Bool) (who who' : Rol
       sync_named g who who' w m' x x' st.roles named goes.longer goes.pars c t y.core z.core at_a at_b r h runs n
       (none_got (Some h) runs as_many same) (omega (arith, seven, within)) (taken_sync y.core z.core n free syncs) none yet.0 yet.1 own others
 
-  pub gets_thread_named : (h : Hand) (n u : ℕ) (i : Thread) → who c t ≡ used_by r (Some h) → h.sync ≡ Some n → 1 ≤ h.lacks → first_free (threads_taken y.core.threads) 0 ≡ Some u → slice_get y.core.threads u ≡ Some i →
+  pub gets_thread_named : (h : Acquired) (n u : ℕ) (i : Thread) → who c t ≡ used_by r (Some h) → h.sync ≡ Some n → 1 ≤ h.lacks → first_free (threads_taken y.core.threads) 0 ≡ Some u → slice_get y.core.threads u ≡ Some i →
       z.core.syncs ≡ y.core.syncs → slice_get z.core.threads u ≡ Some (tied_to n i) → ((v : ℕ) → v ≢ r.thread → v ≢ u → slice_get z.core.threads v ≡ slice_get y.core.threads v) →
       who' c t ≡ used_by r (Some (with_thread_got h u)) → who' c u ≡ got_by t → ((c' t' : ℕ) → ((c' ≡ c) × (t' ≡ t) → ⊥) → ((c' ≡ c) × (t' ≡ u) → ⊥) → who' c' t' ≡ who c' t') → AreNamed g who' w' x'
   gets_thread_named h n u i runs is lacks first there syncs tied others own its roles' =

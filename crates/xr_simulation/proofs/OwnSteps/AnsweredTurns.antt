@@ -10,7 +10,7 @@ use Rattle.xc_meaning.specs.Counts.Families.{steps_of}
 use Rattle.xc_meaning.specs.Counts.KernelCounts.{greatest_count, kernel_bound}
 use Rattle.xc_meaning.specs.States.Branches.{Branch, runs, ended, erred, has_ended}
 use Rattle.xc_meaning.specs.States.Worlds.{World}
-use Rattle.xl_par.specs.Hands.{IsAmong}
+use Rattle.xl_par.specs.Acquired.{IsAmong}
 use Rattle.xr_match.specs.Lives.{Life, Watched}
 use Rattle.xr_simulation.specs.Parents.{Parent, branches_of}
 use Rattle.xr_simulation.specs.Roles.{IsParent, ParentWaits, ParentsWait, empty, outermost}

@@ -12,20 +12,20 @@ use Rattle.xc_disjoint.specs.Needs.{threads_on}
 use Rattle.xc_invariants.specs.Lawful.{Lawful}
 use Rattle.xc_invariants.specs.Needs.{needed_on}
 use Rattle.xc_invariants.specs.Tree.{IsWaiting}
-use Rattle.xl_par.specs.Hands.{Hand}
+use Rattle.xl_par.specs.Acquired.{Acquired}
 use Rattle.xr_match.specs.Lives.{Life, Watched}
 use Rattle.xr_match.specs.Meanings.{of_kernel}
 use Rattle.xr_match.specs.Sources.{Told}
 use Rattle.xr_match.specs.Systems.{SomeIs}
 use Rattle.xr_simulation.specs.Images.{IsImageOf}
 use Rattle.xr_simulation.specs.Parents.{Parent}
-use Rattle.xr_simulation.specs.Roles.{AreRoles, AreUsedSo, HandFits, HasReserves, ParentsWait, Roles, used_by}
+use Rattle.xr_simulation.specs.Roles.{AreRoles, AreUsedSo, AcquiredFits, HasReserves, ParentsWait, Roles, used_by}
 use Rattle.xr_simulation.specs.Runners.{Setting, Runner, footprint_of}
 use Rattle.xr_simulation.specs.Standing.{Stand, Standing, Stands, ThreadIs}
 use Rattle.xr_simulation.specs.Transfers.{StopsIn}
 
 -- A runner's branch, which doesn't wait. One that has ended is in no transfer, and one that has erred waited for an answer where it was in one.
-pub record Works (g : Setting) (x : World) (r : Runner) (hand : Option Hand) : Type 0 where
+pub record Works (g : Setting) (x : World) (r : Runner) (hand : Option Acquired) : Type 0 where
   pub branch : Branch
   pub known : slice_get x.branches r.branch ≡ Some branch
   pub goes : IsWaiting branch.mode → ⊥
@@ -33,7 +33,7 @@ pub record Works (g : Setting) (x : World) (r : Runner) (hand : Option Hand) : T
   pub family : branch.family ≡ r.family
   pub footprint : r.footprint ≡ footprint_of branch.items
   pub parents : ParentsWait g x r.core r.family r.parents r.branch
-  pub in_hand : HandFits branch.items hand
+  pub in_hand : AcquiredFits branch.items hand
   pub sides : branch.sides ≡ r.sides
   pub inside : branch.inside ≡ r.inside
   pub done : branch.mode ≡ ended → r.transfer ≡ None
@@ -52,8 +52,8 @@ pub record Crew (g : Setting) (who : Roles) (x : World) (c : ℕ) (a : CoreState
   pub roles : AreRoles g who
   pub reserves : HasReserves g who x
   pub used : AreUsedSo who c a
-  pub works : (t : ℕ) (r : Runner) (hand : Option Hand) → who c t ≡ used_by r hand → Works g x r hand
-  pub threads : (t : ℕ) (r : Runner) (hand : Option Hand) → who c t ≡ used_by r hand → HasOwnThread a r
+  pub works : (t : ℕ) (r : Runner) (hand : Option Acquired) → who c t ≡ used_by r hand → Works g x r hand
+  pub threads : (t : ℕ) (r : Runner) (hand : Option Acquired) → who c t ≡ used_by r hand → HasOwnThread a r
   pub needed : needed_on c g.program.roots ≡ threads_on g.program c
   pub few : threads_on g.program c ≤ 8
 
@@ -77,11 +77,11 @@ used_by_thread [] ended thread h e = let z : Waiting ≡ Unused = sym h ∙ e in
 used_by_thread (p ∷ ps) ended thread h e = let z : Running ≡ Unused = sym h ∙ e in absurd cc
 used_by_thread ps erred thread h e = let z : Trapped ≡ Unused = sym h ∙ e in absurd cc
 
-pub never_waits : (g : Setting) (r : Runner) (may_rest : Bool) (hand : Option Hand) (a : CoreState) (x : World) (life : Life) (actions : ℕ → ℕ) (branch : Branch) →
+pub never_waits : (g : Setting) (r : Runner) (may_rest : Bool) (hand : Option Acquired) (a : CoreState) (x : World) (life : Life) (actions : ℕ → ℕ) (branch : Branch) →
     Stand g r may_rest hand a x life actions branch → IsWaiting branch.mode → ⊥
 never_waits g r may_rest hand a x life actions branch h w = goes_by r.parents branch.mode h.thread.thread.mode h.thread.is w
 
-pub works_of : (g : Setting) (r : Runner) (may_rest : Bool) (hand : Option Hand) (a : CoreState) (x : World) (life : Life) (actions : ℕ → ℕ) →
+pub works_of : (g : Setting) (r : Runner) (may_rest : Bool) (hand : Option Acquired) (a : CoreState) (x : World) (life : Life) (actions : ℕ → ℕ) →
     Stands g may_rest a x life actions (used_by r hand) → Works g x r hand
 works_of g r may_rest hand a x life actions h =
     let s = some_is (Stand g r may_rest hand a x life actions) (slice_get x.branches r.branch) h in
@@ -101,7 +101,7 @@ works_of g r may_rest hand a x life actions h =
       stops = st.stops;
     }
 
-pub own_thread_of : (g : Setting) (r : Runner) (may_rest : Bool) (hand : Option Hand) (a : CoreState) (x : World) (life : Life) (actions : ℕ → ℕ) →
+pub own_thread_of : (g : Setting) (r : Runner) (may_rest : Bool) (hand : Option Acquired) (a : CoreState) (x : World) (life : Life) (actions : ℕ → ℕ) →
     Stands g may_rest a x life actions (used_by r hand) → HasOwnThread a r
 own_thread_of g r may_rest hand a x life actions h =
     let s = some_is (Stand g r may_rest hand a x life actions) (slice_get x.branches r.branch) h in
@@ -109,7 +109,7 @@ own_thread_of g r may_rest hand a x life actions h =
     record { thread = t.thread; there = t.there; tied = t.tied; used = used_by_thread r.parents s.0.mode t.thread.mode t.is }
 
 module _ (g : Setting) (first who : Roles) (may_rest : ℕ → ℕ → Bool) (w : Watched) (x : Told (of_kernel g.program)) (c : ℕ) (a : CoreState) (image : IsImageOf g first) (st : Standing g may_rest who w x) (at_c : slice_get w.machine.cores c ≡ Some a) where
-  stands_at : (t : ℕ) (r : Runner) (hand : Option Hand) → who c t ≡ used_by r hand → Stands g (may_rest c t) a x.state (w.lives c t) x.actions (used_by r hand)
+  stands_at : (t : ℕ) (r : Runner) (hand : Option Acquired) → who c t ≡ used_by r hand → Stands g (may_rest c t) a x.state (w.lives c t) x.actions (used_by r hand)
   stands_at t r hand e = subst (Stands g (may_rest c t) a x.state (w.lives c t) x.actions) e (st.threads c t a at_c)
 
   pub crew_of : Crew g who x.state c a

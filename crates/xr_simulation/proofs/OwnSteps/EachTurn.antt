@@ -16,13 +16,13 @@ use Rattle.xs_instr.specs.Slot.{slot, turn_at, turn_of}
 use Rattle.xc_meaning.specs.States.Branches.{Branch, Mode, runs, waits, ended, erred}
 use Rattle.xc_meaning.specs.States.Channels.{Side}
 use Rattle.xc_meaning.specs.States.Worlds.{World}
-use Rattle.xl_par.specs.Hands.{Hand}
+use Rattle.xl_par.specs.Acquired.{Acquired}
 use Rattle.xr_match.specs.Lives.{Life, Watched, watched_after}
 use Rattle.xr_match.specs.Meanings.{of_kernel}
 use Rattle.xr_match.specs.Sources.{Told}
 use Rattle.xr_match.specs.Systems.{SomeIs}
 use Rattle.xr_simulation.specs.Parents.{Parent}
-use Rattle.xr_simulation.specs.Roles.{HandFits, Role, Roles, got_by, unused, used_by}
+use Rattle.xr_simulation.specs.Roles.{AcquiredFits, Role, Roles, got_by, unused, used_by}
 use Rattle.xr_simulation.specs.Runners.{Setting, Runner, footprint_of, home}
 use Rattle.xr_simulation.specs.ThreadViews.{IsSilentStep, LeadsIn, Rely, ThreadView, giving_back}
 use Rattle.xr_simulation.specs.Standing.{EventsAre, HasEnded, HasThread, Stand, Stands, StandsBy, StandsWith, ThreadIs, none_rests}
@@ -62,14 +62,14 @@ pub record FollowsSo (g : Setting) (old : Roles) (before : Watched) (x : Told (o
   pub follows : Follows g may_rest old before x w
 
 -- the same stand, where what is in hand is the same
-abbrev pub stand_as : (g : Setting) (r : Runner) (rests : Bool) (hand hand' : Option Hand) (a : CoreState) (x : World) (life : Life) (actions : ℕ → ℕ) (branch : Branch) → hand ≡ hand' → Stand g r rests hand a x life actions branch → Stand g r rests hand' a x life actions branch
+abbrev pub stand_as : (g : Setting) (r : Runner) (rests : Bool) (hand hand' : Option Acquired) (a : CoreState) (x : World) (life : Life) (actions : ℕ → ℕ) (branch : Branch) → hand ≡ hand' → Stand g r rests hand a x life actions branch → Stand g r rests hand' a x life actions branch
 stand_as g r rests hand hand' a x life actions branch e h = record {
   core = h.core;
   family = h.family;
   footprint = h.footprint;
   parents = h.parents;
   thread = h.thread;
-  in_hand = subst (HandFits branch.items) e h.in_hand;
+  in_hand = subst (AcquiredFits branch.items) e h.in_hand;
   sides = h.sides;
   inside = h.inside;
   done = h.done;
@@ -92,14 +92,14 @@ no_step h w m c t a did (inl i) e = no_machine m (sym (ap (stepped h w c t a) i)
 no_step h w m c t a did (inr p) e = no_machine m (sym (ap (stepped h w c t a) p) ∙ e)
 
 -- and where the branch is the same
-abbrev pub stand_of : (g : Setting) (r : Runner) (rests : Bool) (hand : Option Hand) (a : CoreState) (x : World) (life : Life) (actions : ℕ → ℕ) (branch branch' : Branch) → branch ≡ branch' → Stand g r rests hand a x life actions branch → Stand g r rests hand a x life actions branch'
+abbrev pub stand_of : (g : Setting) (r : Runner) (rests : Bool) (hand : Option Acquired) (a : CoreState) (x : World) (life : Life) (actions : ℕ → ℕ) (branch branch' : Branch) → branch ≡ branch' → Stand g r rests hand a x life actions branch → Stand g r rests hand a x life actions branch'
 stand_of g r rests hand a x life actions branch branch' e h = record {
   core = subst (λ (b : Branch). b.core ≡ r.core) e h.core;
   family = subst (λ (b : Branch). b.family ≡ r.family) e h.family;
   footprint = subst (λ (b : Branch). r.footprint ≡ footprint_of b.items) e h.footprint;
   parents = h.parents;
   thread = subst (λ (b : Branch). HasThread g r b.mode b.items a) e h.thread;
-  in_hand = subst (λ (b : Branch). HandFits b.items hand) e h.in_hand;
+  in_hand = subst (λ (b : Branch). AcquiredFits b.items hand) e h.in_hand;
   sides = subst (λ (b : Branch). b.sides ≡ r.sides) e h.sides;
   inside = subst (λ (b : Branch). b.inside ≡ r.inside) e h.inside;
   done = subst (λ (b : Branch). b.mode ≡ ended → r.transfer ≡ None) e h.done;
@@ -117,7 +117,7 @@ module _ (moment : Moment none_rests)
   abbrev Goal : Type 0
   Goal = FollowsSo g who w x (watched_after w (Step c t) m)
 
-  module _ (r : Runner) (hand : Option Hand) (runs_r : who c t ≡ used_by r hand)
+  module _ (r : Runner) (hand : Option Acquired) (runs_r : who c t ≡ used_by r hand)
       (branch : Branch) (known : slice_get x.state.branches r.branch ≡ Some branch) (stand : Stand g r false hand a x.state (w.lives c t) x.actions branch) where
     abbrev now : ThreadView
     now = record { core = a; world = x.state; hand = hand }
@@ -331,7 +331,7 @@ module _ (moment : Moment none_rests)
         (idle_thread (home g r) a r.thread stand.thread.thread stand.thread.there (inr (inr (trapped_mode r.parents (subst (λ k. ThreadIs r.parents k stand.thread.thread.mode) over stand.thread.is))))) e
 
   -- wherever the branch stands
-  at_branch : (r : Runner) (hand : Option Hand) → who c t ≡ used_by r hand → (o : Option Branch) → slice_get x.state.branches r.branch ≡ o → SomeIs o (Stand g r false hand a x.state (w.lives c t) x.actions) → stepped (home_of g.image g.stimulus c) w.machine c t a (slot (home_of g.image g.stimulus c) a t) ≡ Some m → Goal
+  at_branch : (r : Runner) (hand : Option Acquired) → who c t ≡ used_by r hand → (o : Option Branch) → slice_get x.state.branches r.branch ≡ o → SomeIs o (Stand g r false hand a x.state (w.lives c t) x.actions) → stepped (home_of g.image g.stimulus c) w.machine c t a (slot (home_of g.image g.stimulus c) a t) ≡ Some m → Goal
   at_branch r hand runs_r None known h e = absurd h
   at_branch r hand runs_r (Some branch) known h e =
       let core = st.roles.core c t r hand runs_r in

@@ -17,7 +17,7 @@ use Rattle.xc_meaning.specs.States.Items.{Item}
 use Rattle.xc_meaning.specs.States.Worlds.{World, Action}
 use Rattle.xc_meaning.specs.Uses.{by_item, by_items}
 use Rattle.xl_expr.proofs.Lists.{get_set_same, get_set_other}
-use Rattle.xl_par.specs.Hands.{Hand, IsAmong}
+use Rattle.xl_par.specs.Acquired.{Acquired, IsAmong}
 use Rattle.xr_match.specs.Implements.{clock_of}
 use Rattle.xr_match.specs.Lives.{Watched}
 use Rattle.xr_match.specs.Systems.{SomeIs}
@@ -284,14 +284,14 @@ module _ {moment : Moment none_rests} (thread_at : ThreadAt moment None)
     }
 
     -- each runner was there, with the same parents, and each but the thread's own is there still
-    runner_before : (d u : ℕ) (i : Runner) (other : Option Hand) → who_on d u ≡ used_by i other → (j : Runner) × (old : Option Hand) × (who d u ≡ used_by j old) × (j.parents ≡ i.parents)
+    runner_before : (d u : ℕ) (i : Runner) (other : Option Acquired) → who_on d u ≡ used_by i other → (j : Runner) × (old : Option Acquired) × (who d u ≡ used_by j old) × (j.parents ≡ i.parents)
     runner_before d u i other at =
         ⊎_elim
         (λ here. (r, None, ap (λ k. who k u) here.0 ∙ ap (who c) here.1 ∙ runs_r, ap (λ (k : Runner). k.parents) (same_runner s i None other (sym here.2 ∙ at))))
         (λ there. (i, other, sym there.1 ∙ at, refl))
         (role_cases who c t (used_by s None) d u)
 
-    runner_still : (u : ℕ) (i : Runner) (other : Option Hand) → who c u ≡ used_by i other → (r ≡ i) ⊎ (who_on c u ≡ used_by i other)
+    runner_still : (u : ℕ) (i : Runner) (other : Option Acquired) → who c u ≡ used_by i other → (r ≡ i) ⊎ (who_on c u ≡ used_by i other)
     runner_still u i other at =
         ⊎_elim
         (λ here. inl (same_runner r i None other (sym runs_r ∙ ap (who c) (sym here.1) ∙ at)))
@@ -407,7 +407,7 @@ module _ {moment : Moment none_rests} (thread_at : ThreadAt moment None)
           (subst (Stands g (may_rest' c t) e.left e.world (w'.lives c t) actions) (sym (role_here who c t (used_by s None)))
           (subst (λ o. SomeIs o (Stand g s (may_rest' c t) None e.left e.world (w'.lives c t) actions)) (sym own_branch) stand))
 
-      own_alone : (u : ℕ) (i : Runner) (hand : Option Hand) (transfer : Transfer) → only_thread t u ≡ true → who_on c u ≡ used_by i hand → i.transfer ≡ Some transfer → HasAlone e.world.branches transfer.channel transfer.side i.branch
+      own_alone : (u : ℕ) (i : Runner) (hand : Option Acquired) (transfer : Transfer) → only_thread t u ≡ true → who_on c u ≡ used_by i hand → i.transfer ≡ Some transfer → HasAlone e.world.branches transfer.channel transfer.side i.branch
       own_alone u i hand transfer m at its =
           let same : s ≡ i = same_runner s i None hand (sym (role_here who c t (used_by s None)) ∙ ap (who_on c) (sym (eqb-true u t m)) ∙ at) in
           subst (λ (k : Runner). HasAlone e.world.branches transfer.channel transfer.side k.branch) same

@@ -7,7 +7,7 @@ use Rattle.xc_disjoint.specs.Needs.{threads_on}
 use Rattle.xc_meaning.specs.Runs.{acts_all}
 use Rattle.xc_meaning.specs.States.Branches.{Branch, has_ended}
 use Rattle.xc_meaning.specs.States.Worlds.{Action}
-use Rattle.xl_par.specs.Hands.{Hand, IsAmong}
+use Rattle.xl_par.specs.Acquired.{Acquired, IsAmong}
 use Rattle.xr_match.specs.Lives.{Watched}
 use Rattle.xr_simulation.specs.Parents.{branches_of}
 use Rattle.xr_simulation.specs.Roles.{Roles, own_branches, unused, used_by}
@@ -48,14 +48,14 @@ module _ {moment : Moment none_rests} (thread_at : ThreadAt moment None)
   abbrev who_off : Roles
   who_off = with_role who c t unused
 
-  before_off : (d u : ℕ) (i : Runner) (other : Option Hand) → who_off d u ≡ used_by i other → who d u ≡ used_by i other
+  before_off : (d u : ℕ) (i : Runner) (other : Option Acquired) → who_off d u ≡ used_by i other → who d u ≡ used_by i other
   before_off d u i other at =
       ⊎_elim
       (λ here. let both : unused ≡ used_by i other = sym here.2 ∙ at in cc)
       (λ there. sym there.1 ∙ at)
       (role_cases who c t unused d u)
 
-  still_off : (d u : ℕ) (i : Runner) (other : Option Hand) → who d u ≡ used_by i other → (r ≡ i) ⊎ (who_off d u ≡ used_by i other)
+  still_off : (d u : ℕ) (i : Runner) (other : Option Acquired) → who d u ≡ used_by i other → (r ≡ i) ⊎ (who_off d u ≡ used_by i other)
   still_off d u i other at =
       ⊎_elim
       (λ here. inl (same_runner r i None other (sym runs_r ∙ sym (ap (λ k. who k u) here.0 ∙ ap (who c) here.1) ∙ at)))

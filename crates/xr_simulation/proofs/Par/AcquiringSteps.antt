@@ -12,8 +12,8 @@ use Rattle.xs_instr.specs.Pool.{tied_to}
 use Rattle.xc_meaning.specs.States.Items.{Item}
 use Rattle.xl_expr.proofs.Lists.{get_set_other, get_set_same, room_kept}
 use Rattle.xl_expr.proofs.ResourceParts.{others_same}
-use Rattle.xl_par.specs.Hands as hands
-use Rattle.xl_par.specs.Hands.{Hand, HandStep, IsAmong, KeptHand, WithinHand, own_only}
+use Rattle.xl_par.specs.Acquired as hands
+use Rattle.xl_par.specs.Acquired.{Acquired, AcquiringStep, IsAmong, KeepsAcquired, WithinAcquiring, own_only}
 use Rattle.xr_simulation.specs.Runners.{Setting, Runner, home, port_place, relied}
 use Rattle.xr_simulation.specs.ThreadViews as views
 use Rattle.xr_simulation.specs.Sizes.{sizes_of}
@@ -46,7 +46,7 @@ module _ (g : Setting) (r : Runner) where
       }
 
   -- what is kept of a view is kept of its core and hand
-  pub hand_kept : (hand : Hand) (z y : ThreadView) → z.hand ≡ Some hand → Rely g r z y → KeptHand (relied g r) r.thread hand z.core y.core
+  pub hand_kept : (hand : Acquired) (z y : ThreadView) → z.hand ≡ Some hand → Rely g r z y → KeepsAcquired (relied g r) r.thread hand z.core y.core
   hand_kept hand z y is k = record {
     own = record { thread = k.thread; words = k.words };
     sync = λ n e. k.syncs n (inr (ap sync_in is ∙ e));
@@ -55,8 +55,8 @@ module _ (g : Setting) (r : Runner) where
     spare = subst (λ h. SpareFor h y.core) is k.spare;
   }
 
-  module _ (y : ThreadView) (hand hand' : Hand) (is : y.hand ≡ Some hand) (b : CoreState) (running_on : StillRuns g r y.core)
-      (step : HandStep (home g r) r.thread hand hand' y.core b) where
+  module _ (y : ThreadView) (hand hand' : Acquired) (is : y.hand ≡ Some hand) (b : CoreState) (running_on : StillRuns g r y.core)
+      (step : AcquiringStep (home g r) r.thread hand hand' y.core b) where
     abbrev next : ThreadView
     next = record { core = b; world = y.world; hand = Some hand' }
 
@@ -123,7 +123,7 @@ module _ (g : Setting) (r : Runner) where
         record {
           guarantee = record {
             clock = ap (λ (c : CoreState). c.clock) left;
-            others = λ v ne free. rest v ne (λ e. free (subst (λ (h : Hand). IsAmong h.threads v) (sym same) (inl e)));
+            others = λ v ne free. rest v ne (λ e. free (subst (λ (h : Acquired). IsAmong h.threads v) (sym same) (inl e)));
             as_many = ap (λ (c : CoreState). length c.threads) left ∙ length-set threads r.thread th' ∙ length-set y.core.threads u (tied_to n x);
             words = λ w mine. ap (λ (c : CoreState). slice_get c.words w) left;
             sizes = ap sizes_of left;
@@ -147,7 +147,7 @@ module _ (g : Setting) (r : Runner) where
         record {
           guarantee = record {
             clock = ap (λ (c : CoreState). c.clock) left;
-            others = λ v ne free. rest v ne (λ e. free (subst (λ (h : Hand). IsAmong h.threads v) (sym same) (subst (IsAmong hand.threads) (sym e) among)));
+            others = λ v ne free. rest v ne (λ e. free (subst (λ (h : Acquired). IsAmong h.threads v) (sym same) (subst (IsAmong hand.threads) (sym e) among)));
             as_many = ap (λ (c : CoreState). length c.threads) left ∙ length-set threads r.thread th' ∙ length-set y.core.threads u x';
             words = λ w mine. ap (λ (c : CoreState). slice_get c.words w) left;
             sizes = ap sizes_of left;
@@ -212,15 +212,15 @@ module _ (g : Setting) (r : Runner) where
     }
 
   -- where these steps lead, with what is in hand then
-  pub record Reached (Q : Hand → CoreState → Type 0) (items : List Item) (x : ThreadView) : Type 0 where
-    pub hand : Hand
+  pub record Reached (Q : Acquired → CoreState → Type 0) (items : List Item) (x : ThreadView) : Type 0 where
+    pub hand : Acquired
     pub in_hand : x.hand ≡ Some hand
     pub there : Q hand x.core
     pub has : Has g r items x
 
-  pub hand_leads : (Q : Hand → CoreState → Type 0) (items : List Item) (n : ℕ) (y : ThreadView) (hand : Hand) → y.hand ≡ Some hand →
+  pub hand_leads : (Q : Acquired → CoreState → Type 0) (items : List Item) (n : ℕ) (y : ThreadView) (hand : Acquired) → y.hand ≡ Some hand →
       StillRuns g r y.core → Has g r items y →
-      WithinHand (home g r) (relied g r) r.thread Q n hand y.core → LeadsIn g r (Reached Q items) n y
+      WithinAcquiring (home g r) (relied g r) r.thread Q n hand y.core → LeadsIn g r (Reached Q items) n y
   hand_leads Q items zero y hand is on has way = record { hand = hand; in_hand = is; there = way; has = has }
   hand_leads Q items (suc n) y hand is on has way =
       ⊎_elim

@@ -14,11 +14,11 @@ use Rattle.xc_meaning.specs.Counts.KernelCounts.{branch_count}
 use Rattle.xc_meaning.specs.States.Branches.{Branch}
 use Rattle.xc_meaning.specs.States.Items.{Item}
 use Rattle.xl_expr.proofs.Lists.{get_set_same, get_set_other}
-use Rattle.xl_par.specs.Hands.{Hand, IsAmong, with_sync, with_thread_got}
+use Rattle.xl_par.specs.Acquired.{Acquired, IsAmong, with_sync, with_thread_got}
 use Rattle.xr_match.specs.Lives.{life_after, watched_after}
 use Rattle.xr_match.specs.Meanings.{of_kernel}
 use Rattle.xr_match.specs.Sources.{Told}
-use Rattle.xr_simulation.specs.Roles.{AreUsedSo, HandFits, Role, Roles, empty, gives_back, got_by, opens, unused, used_by}
+use Rattle.xr_simulation.specs.Roles.{AreUsedSo, AcquiredFits, Role, Roles, empty, gives_back, got_by, opens, unused, used_by}
 use Rattle.xr_simulation.specs.Runners.{Runner}
 use Rattle.xr_simulation.specs.ThreadViews.{HandChange, IsSilentStep, Owns, gets_sync, gets_thread, keeps, SameUse, ThreadView, StillRuns, Guarantee, giving_back, held_in, sync_in}
 use Rattle.xr_simulation.specs.Standing.{EventsAre, StandsBy, ThreadIs, none_rests}
@@ -68,7 +68,7 @@ held_false (v ∷ vs) u e (inl f) = not_same u v (or_false (nat_eq u v) (is_held
 held_false (v ∷ vs) u e (inr m) = held_false vs u (or_false (nat_eq u v) (is_held vs u) e).1 m
 
 -- who holds a thread has a synchroniser
-pub hand_sync : (items : List Item) (hand : Option Hand) (u : ℕ) → HandFits items hand → IsAmong (held_in hand) u → (n : ℕ) × (sync_in hand ≡ Some n)
+pub hand_sync : (items : List Item) (hand : Option Acquired) (u : ℕ) → AcquiredFits items hand → IsAmong (held_in hand) u → (n : ℕ) × (sync_in hand ≡ Some n)
 hand_sync items hand u (empty e) m = absurd (subst (λ h. IsAmong (held_in h) u) e m)
 hand_sync items hand u (gives_back n e) m = absurd (subst (λ h. IsAmong (held_in h) u) e m)
 hand_sync items hand u (opens h bs rest e is count several synced) m = by h.sync refl
@@ -77,8 +77,8 @@ hand_sync items hand u (opens h bs rest e is count several synced) m = by h.sync
     by None none = absurd (subst (λ l. IsAmong l u) (synced none) (subst (λ k. IsAmong (held_in k) u) e m))
     by (Some n) some = (n, ap sync_in e ∙ some)
 
-module _ {moment : Moment none_rests} {hand : Option Hand} (thread_at : ThreadAt moment hand)
-    (branch : Branch) (fits : HandFits branch.items hand) (z : ThreadView) (on : StillRuns moment.setting thread_at.runner z.core)
+module _ {moment : Moment none_rests} {hand : Option Acquired} (thread_at : ThreadAt moment hand)
+    (branch : Branch) (fits : AcquiredFits branch.items hand) (z : ThreadView) (on : StillRuns moment.setting thread_at.runner z.core)
     (guarantee : Guarantee moment.setting thread_at.runner
     (record { core = thread_at.state; world = moment.told.state; hand = hand }) z) where
   open moment use {setting as g, image as is, roles as who, watched as w, told as x, standing as st}
@@ -90,10 +90,10 @@ module _ {moment : Moment none_rests} {hand : Option Hand} (thread_at : ThreadAt
   thread_is : r.thread ≡ t
   thread_is = st.roles.thread c t r hand runs_r
 
-  got_runs : (k : ℕ) (s : Runner) (h : Option Hand) → got_by k ≡ used_by s h → ⊥
+  got_runs : (k : ℕ) (s : Runner) (h : Option Acquired) → got_by k ≡ used_by s h → ⊥
   got_runs k s h e = cc
 
-  unused_runs : (s : Runner) (h : Option Hand) → unused ≡ used_by s h → ⊥
+  unused_runs : (s : Runner) (h : Option Acquired) → unused ≡ used_by s h → ⊥
   unused_runs s h e = cc
 
   unused_got : (k : ℕ) → unused ≡ got_by k → ⊥
@@ -181,20 +181,20 @@ module _ {moment : Moment none_rests} {hand : Option Hand} (thread_at : ThreadAt
             inl (inr (h.1 ∙ ap Some (held_tie u h.0 n thread same ne h.2 there tied)))
 
   -- it gets a synchroniser
-  module _ (h : Hand) (n : ℕ) (in_hand : hand ≡ Some h) (none : h.sync ≡ None) (free : slice_get a.syncs n ≡ Some false) (taken : z.core.syncs ≡ slice_set a.syncs n true) (with_it : z.hand ≡ Some (with_sync h n)) (same : SameUse g r now z) where
-    abbrev pub hand_synced : Option Hand
+  module _ (h : Acquired) (n : ℕ) (in_hand : hand ≡ Some h) (none : h.sync ≡ None) (free : slice_get a.syncs n ≡ Some false) (taken : z.core.syncs ≡ slice_set a.syncs n true) (with_it : z.hand ≡ Some (with_sync h n)) (same : SameUse g r now z) where
+    abbrev pub hand_synced : Option Acquired
     hand_synced = Some (with_sync h n)
 
     abbrev pub who_synced : Roles
     who_synced = with_role who c t (used_by r hand_synced)
 
     -- it holds no threads yet
-    holds_none : (HandFits branch.items hand) → h.threads ≡ []
+    holds_none : (AcquiredFits branch.items hand) → h.threads ≡ []
     holds_none (empty e) = let both : Some h ≡ None = sym in_hand ∙ e in cc
     holds_none (gives_back m e) = let both : None ≡ Some m = sym none ∙ ap sync_in (sym in_hand ∙ e) in absurd (none_some m both)
     holds_none (opens k bs rest e is count several synced) =
         let one : h ≡ k = same_Some h k (sym in_hand ∙ e) in
-        ap (λ (i : Hand). i.threads) one ∙ synced (ap (λ (i : Hand). i.sync) (sym one) ∙ none)
+        ap (λ (i : Acquired). i.threads) one ∙ synced (ap (λ (i : Acquired). i.sync) (sym one) ∙ none)
 
     holds_none_now : (u : ℕ) → IsAmong (held_in hand) u → ⊥
     holds_none_now u m = subst (λ l. IsAmong l u) (ap held_in in_hand ∙ holds_none fits) m
@@ -202,12 +202,12 @@ module _ {moment : Moment none_rests} {hand : Option Hand} (thread_at : ThreadAt
     free_not_taken : (m : ℕ) → slice_get a.syncs m ≡ Some true → m ≢ n
     free_not_taken m e f = let both : true ≡ false = same_Some true false (sym e ∙ ap (slice_get a.syncs) f ∙ free) in cc
 
-    synced_fits : HandFits branch.items hand → HandFits branch.items hand_synced
+    synced_fits : AcquiredFits branch.items hand → AcquiredFits branch.items hand_synced
     synced_fits (empty e) = let both : Some h ≡ None = sym in_hand ∙ e in cc
     synced_fits (gives_back m e) = let both : None ≡ Some m = sym none ∙ ap sync_in (sym in_hand ∙ e) in absurd (none_some m both)
     synced_fits (opens k bs rest e is count several synced) =
         let one : k ≡ h = same_Some k h (sym e ∙ in_hand) in
-        opens (with_sync h n) bs rest refl is (subst (λ (i : Hand). 1 + length i.threads + i.lacks ≡ branch_count bs) one count) several (λ f. absurd (none_some n (sym f)))
+        opens (with_sync h n) bs rest refl is (subst (λ (i : Acquired). 1 + length i.threads + i.lacks ≡ branch_count bs) one count) several (λ f. absurd (none_some n (sym f)))
 
     synced_others : OthersUsed g who c t st.roles r hand runs_r a z.core (st.used c a at_c)
     synced_others = record {
@@ -244,14 +244,14 @@ module _ {moment : Moment none_rests} {hand : Option Hand} (thread_at : ThreadAt
     }
       where
         lacks_none : (m : ℕ) → hand_synced ≡ giving_back m → h.lacks ≡ 0
-        lacks_none m e = ap (λ (k : Hand). k.lacks) (same_Some (with_sync h n) (record { sync = Some m; threads = []; lacks = 0 }) e)
+        lacks_none m e = ap (λ (k : Acquired). k.lacks) (same_Some (with_sync h n) (record { sync = Some m; threads = []; lacks = 0 }) e)
 
-        not_giving : HandFits branch.items hand → h.lacks ≡ 0 → ⊥
+        not_giving : AcquiredFits branch.items hand → h.lacks ≡ 0 → ⊥
         not_giving (empty e) l = let both : Some h ≡ None = sym in_hand ∙ e in cc
         not_giving (gives_back m e) l = let both : None ≡ Some m = sym none ∙ ap sync_in (sym in_hand ∙ e) in none_some m both
         not_giving (opens k bs rest e is count several synced) l =
             let one : k ≡ h = same_Some k h (sym e ∙ in_hand) in
-            let count' : 1 + length h.threads + h.lacks ≡ branch_count bs = subst (λ (i : Hand). 1 + length i.threads + i.lacks ≡ branch_count bs) one count in
+            let count' : 1 + length h.threads + h.lacks ≡ branch_count bs = subst (λ (i : Acquired). 1 + length i.threads + i.lacks ≡ branch_count bs) one count in
             let empty_threads : length h.threads ≡ 0 = ap length (holds_none (opens k bs rest e is count several synced)) in
             omega arith
 
@@ -289,7 +289,7 @@ module _ {moment : Moment none_rests} {hand : Option Hand} (thread_at : ThreadAt
     }
 
   -- it gets a thread
-  module _ (h : Hand) (n v : ℕ) (x' : Thread) (in_hand : hand ≡ Some h) (synced : h.sync ≡ Some n) (lacks : 1 ≤ h.lacks) (next : first_free (threads_taken a.threads) 0 ≡ Some v) (there : slice_get a.threads v ≡ Some x')
+  module _ (h : Acquired) (n v : ℕ) (x' : Thread) (in_hand : hand ≡ Some h) (synced : h.sync ≡ Some n) (lacks : 1 ≤ h.lacks) (next : first_free (threads_taken a.threads) 0 ≡ Some v) (there : slice_get a.threads v ≡ Some x')
       (same_syncs : z.core.syncs ≡ a.syncs) (tied : slice_get z.core.threads v ≡ Some (tied_to n x')) (others : (u : ℕ) → u ≢ r.thread → u ≢ v → slice_get z.core.threads u ≡ slice_get a.threads u) where
     pub runs_h : who c t ≡ used_by r (Some h)
     runs_h = runs_r ∙ ap (used_by r) in_hand
@@ -321,7 +321,7 @@ module _ {moment : Moment none_rests} {hand : Option Hand} (thread_at : ThreadAt
     pub inside_there : v < threads_on g.program c
     inside_there = first_unused_inside g who x.state c a (crew_at moment c a at_c) t v r h runs_h lacks next
 
-    abbrev pub hand_more : Option Hand
+    abbrev pub hand_more : Option Acquired
     hand_more = Some (with_thread_got h v)
 
     abbrev pub who_more : Roles
@@ -333,15 +333,15 @@ module _ {moment : Moment none_rests} {hand : Option Hand} (thread_at : ThreadAt
     v_not_t : v ≢ t
     v_not_t e = unused_runs r (Some h) (sym free_role ∙ ap (who c) e ∙ runs_h)
 
-    more_fits : HandFits branch.items hand → HandFits branch.items hand_more
+    more_fits : AcquiredFits branch.items hand → AcquiredFits branch.items hand_more
     more_fits (empty e) = let both : Some h ≡ None = sym in_hand ∙ e in cc
     more_fits (gives_back m e) =
         let one : h ≡ record { sync = Some m; threads = []; lacks = 0 } = same_Some h (record { sync = Some m; threads = []; lacks = 0 }) (sym in_hand ∙ e) in
-        let none : h.lacks ≡ 0 = ap (λ (k : Hand). k.lacks) one in
+        let none : h.lacks ≡ 0 = ap (λ (k : Acquired). k.lacks) one in
         absurd (let f : ⊥ = omega arith in f)
     more_fits (opens k bs rest e is count several sync) =
         let one : k ≡ h = same_Some k h (sym e ∙ in_hand) in
-        let count' : 1 + length h.threads + h.lacks ≡ branch_count bs = subst (λ (i : Hand). 1 + length i.threads + i.lacks ≡ branch_count bs) one count in
+        let count' : 1 + length h.threads + h.lacks ≡ branch_count bs = subst (λ (i : Acquired). 1 + length i.threads + i.lacks ≡ branch_count bs) one count in
         let more : 1 + length (v ∷ h.threads) + (h.lacks - 1) ≡ branch_count bs = omega arith in
         opens (with_thread_got h v) bs rest refl is more several (λ f. absurd (none_some n (sym f ∙ synced)))
 
@@ -353,12 +353,12 @@ module _ {moment : Moment none_rests} {hand : Option Hand} (thread_at : ThreadAt
         (or_true (only_thread t u) (only_thread v u) m)
 
     -- each runner is there as before
-    before_more : (d u : ℕ) (i : Runner) (other : Option Hand) → who_more d u ≡ used_by i other → Place g who c t v st.roles r h runs_h free_role few_there inside_there d u → (was : Option Hand) × (who d u ≡ used_by i was)
+    before_more : (d u : ℕ) (i : Runner) (other : Option Acquired) → who_more d u ≡ used_by i other → Place g who c t v st.roles r h runs_h free_role few_there inside_there d u → (was : Option Acquired) × (who d u ≡ used_by i was)
     before_more d u i other at (own dc ut is_now was) = (Some h, was ∙ ap (λ k. used_by k (Some h)) (same_runner r i hand_more other (sym is_now ∙ at)))
     before_more d u i other at (new dc uv is_now was) = absurd (got_runs t i other (sym is_now ∙ at))
     before_more d u i other at (old same) = (other, sym same ∙ at)
 
-    still_more : (d u : ℕ) (i : Runner) (other : Option Hand) → who d u ≡ used_by i other → Place g who c t v st.roles r h runs_h free_role few_there inside_there d u → (more : Option Hand) × (who_more d u ≡ used_by i more)
+    still_more : (d u : ℕ) (i : Runner) (other : Option Acquired) → who d u ≡ used_by i other → Place g who c t v st.roles r h runs_h free_role few_there inside_there d u → (more : Option Acquired) × (who_more d u ≡ used_by i more)
     still_more d u i other at (own dc ut is_now was) = (hand_more, is_now ∙ ap (λ k. used_by k hand_more) (same_runner r i (Some h) other (sym was ∙ at)))
     still_more d u i other at (new dc uv is_now was) = absurd (unused_runs i other (sym was ∙ at))
     still_more d u i other at (old same) = (other, same ∙ at)
@@ -426,7 +426,7 @@ module _ {moment : Moment none_rests} {hand : Option Hand} (thread_at : ThreadAt
             inl (inr (ap sync_in in_hand ∙ synced ∙ one))
 
 -- A silent step leads on, whatever it makes of the thread's hand.
-module _ {moment : Moment none_rests} {hand : Option Hand} {thread_at : ThreadAt moment hand} (branch_at : BranchAt thread_at)
+module _ {moment : Moment none_rests} {hand : Option Acquired} {thread_at : ThreadAt moment hand} (branch_at : BranchAt thread_at)
     (z : ThreadView) (alive : (mode : ThreadMode) → mode ≡ Running → ThreadIs thread_at.runner.parents branch_at.branch.mode mode)
     (calm : (bit : Bool) → bit ≡ false → EventsAre branch_at.branch.mode branch_at.branch.items bit)
     (silent : IsSilentStep moment.setting thread_at.runner (record { core = thread_at.state; world = moment.told.state; hand = hand }) z)
@@ -453,12 +453,12 @@ module _ {moment : Moment none_rests} {hand : Option Hand} {thread_at : ThreadAt
   at_left = get_set_same w.machine.cores c a z.core at_c
 
   -- the view, with what the hand is
-  view_is : (hand' : Option Hand) → z.hand ≡ hand' → (P : ThreadView → Type 0) → P z →
+  view_is : (hand' : Option Acquired) → z.hand ≡ hand' → (P : ThreadView → Type 0) → P z →
       P (record { core = z.core; world = x.state; hand = hand' })
   view_is hand' e P h = subst (λ k. P (record { core = z.core; world = x.state; hand = k })) e
       (subst (λ v. P (record { core = z.core; world = v; hand = z.hand })) silent.world h)
 
-  by_roles : (hand' : Option Hand) → z.hand ≡ hand' → (who' : Roles) (moved : ℕ → Bool) → SilentRoles g who who' c t r hand hand' a z.core branch moved → (AreNamed g who w x → AreNamed g who' (watched_after w (Step c t) silent_machine) nothing_told) →
+  by_roles : (hand' : Option Acquired) → z.hand ≡ hand' → (who' : Roles) (moved : ℕ → Bool) → SilentRoles g who who' c t r hand hand' a z.core branch moved → (AreNamed g who w x → AreNamed g who' (watched_after w (Step c t) silent_machine) nothing_told) →
       Follows g none_rests who w x (watched_after w (Step c t) silent_machine)
   by_roles hand' e who' moved roles named =
       silent_answered branch_at z.core hand' alive calm silent.on (view_is hand' e (Guarantee g r before) silent.guarantee) silent.roots

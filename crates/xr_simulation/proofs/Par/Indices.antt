@@ -2,7 +2,7 @@
 use Rattle.std.proofs.Common.{◌≡◌, ◌≢◌, ℕ, suc, ◌≤◌, Bool, true, false, List, [], ◌∷◌, length, Option, Some, None, refl, sym, ap, ◌∙◌, subst, inl, inr, ⊎_elim, arith, eq-eqb}
 use Rattle.std.specs.Prelude.{nat_eq}
 use Rattle.std.proofs.lemmas.Bool.{cases_eq, ne_eqb}
-use Rattle.xl_par.specs.Hands.{IsAmong}
+use Rattle.xl_par.specs.Acquired.{IsAmong}
 use Rattle.xr_simulation.specs.Roles.{IsOnce}
 
 abbrev pub index_by : Bool → (here : ℕ) → (others : Option ℕ) → Option ℕ

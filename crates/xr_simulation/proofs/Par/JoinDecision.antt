@@ -12,14 +12,14 @@ use Rattle.xc_meaning.specs.Settings.Par.{all_done, is_done}
 use Rattle.xc_meaning.specs.States.Branches.{Branch, Mode, ended, erred, has_ended, runs, waits}
 use Rattle.xc_meaning.specs.States.Items.{Item}
 use Rattle.xc_meaning.specs.States.Worlds.{World}
-use Rattle.xl_par.specs.Hands.{Hand, IsAmong}
+use Rattle.xl_par.specs.Acquired.{Acquired, IsAmong}
 use Rattle.xl_par.proofs.Pools.{all_waiting}
 use Rattle.xr_match.specs.Lives.{Life, Watched}
 use Rattle.xr_match.specs.Meanings.{of_kernel}
 use Rattle.xr_match.specs.Sources.{Told}
 use Rattle.xr_match.specs.Systems.{SomeIs}
 use Rattle.xr_simulation.specs.Parents.{Parent, sync_before, syncs_of}
-use Rattle.xr_simulation.specs.Roles.{AreUsedSo, HandFits, IsOnce, IsParent, ParentsWait, Role, Roles, empty, gives_back, got_by, opens, outermost, unused, used_by}
+use Rattle.xr_simulation.specs.Roles.{AreUsedSo, AcquiredFits, IsOnce, IsParent, ParentsWait, Role, Roles, empty, gives_back, got_by, opens, outermost, unused, used_by}
 use Rattle.xr_simulation.specs.Runners.{Setting, Runner}
 use Rattle.xr_simulation.specs.ThreadViews.{held_in, sync_in}
 use Rattle.xr_simulation.specs.Standing.{EventsAre, Stand, Standing, Stands, ThreadIs}
@@ -68,7 +68,7 @@ ended_waits (p ∷ ps) ended thread h e = let clash : Running ≡ Waiting = sym 
 ended_waits ps erred thread h e = let clash : Trapped ≡ Waiting = sym h ∙ e in absurd (cc)
 
 -- one that has threads in hand has a synchroniser
-pub hand_has_sync : (items : List Item) (hand : Option Hand) (u : ℕ) → HandFits items hand → IsAmong (held_in hand) u → (n : ℕ) × (sync_in hand ≡ Some n)
+pub hand_has_sync : (items : List Item) (hand : Option Acquired) (u : ℕ) → AcquiredFits items hand → IsAmong (held_in hand) u → (n : ℕ) × (sync_in hand ≡ Some n)
 hand_has_sync items hand u (empty none) m = absurd (subst (λ h. IsAmong (held_in h) u) none m)
 hand_has_sync items hand u (gives_back n is) m = (n, ap sync_in is)
 hand_has_sync items hand u (opens h bs rest is items_are count several none) m = by h.sync refl
@@ -78,7 +78,7 @@ hand_has_sync items hand u (opens h bs rest is items_are count several none) m =
     by (Some n) e = (n, ap sync_in is ∙ e)
 
 -- How a runner's thread is, and its branch.
-pub record Runs (g : Setting) (a : CoreState) (x : World) (s : Runner) (other : Option Hand) : Type 0 where
+pub record Runs (g : Setting) (a : CoreState) (x : World) (s : Runner) (other : Option Acquired) : Type 0 where
   pub branch : Branch
   pub known : slice_get x.branches s.branch ≡ Some branch
   pub parents : ParentsWait g x s.core s.family s.parents s.branch
@@ -87,9 +87,9 @@ pub record Runs (g : Setting) (a : CoreState) (x : World) (s : Runner) (other : 
   pub tied : thread.tie ≡ s.tie
   pub events : EventsAre branch.mode branch.items thread.event_bit
   pub is : ThreadIs s.parents branch.mode thread.mode
-  pub in_hand : HandFits branch.items other
+  pub in_hand : AcquiredFits branch.items other
 
-pub runs_by : (g : Setting) (rests : Bool) (a : CoreState) (x : World) (life : Life) (actions : ℕ → ℕ) (s : Runner) (other : Option Hand) → Stands g rests a x life actions (used_by s other) → Runs g a x s other
+pub runs_by : (g : Setting) (rests : Bool) (a : CoreState) (x : World) (life : Life) (actions : ℕ → ℕ) (s : Runner) (other : Option Acquired) → Stands g rests a x life actions (used_by s other) → Runs g a x s other
 runs_by g rests a x life actions s other h = by (slice_get x.branches s.branch) refl h
   where
     by : (o : Option Branch) → slice_get x.branches s.branch ≡ o → SomeIs o (Stand g s rests other a x life actions) → Runs g a x s other
@@ -107,18 +107,18 @@ runs_by g rests a x life actions s other h = by (slice_get x.branches s.branch) 
     }
 
 module _ (g : Setting) (may_rest : (core thread : ℕ) → Bool) (who : Roles) (w : Watched) (x : Told (of_kernel g.program)) (st : Standing g may_rest who w x) (c : ℕ) (a : CoreState) (at_c : slice_get w.machine.cores c ≡ Some a) where
-  pub runs_at_thread : (u : ℕ) (s : Runner) (other : Option Hand) → who c u ≡ used_by s other → Runs g a x.state s other
+  pub runs_at_thread : (u : ℕ) (s : Runner) (other : Option Acquired) → who c u ≡ used_by s other → Runs g a x.state s other
   runs_at_thread u s other e = runs_by g (may_rest c u) a x.state (w.lives c u) x.actions s other (subst (Stands g (may_rest c u) a x.state (w.lives c u) x.actions) e (st.threads c u a at_c))
 
   -- the thread of one that began as a branch waits where that branch has ended
-  ends_where : (s : Runner) (other : Option Hand) (k : ℕ) (u : ℕ) → who c u ≡ used_by s other → s.family ≡ k → (run : Runs g a x.state s other) → run.thread.mode ≡ Waiting → is_done (slice_get x.state.branches k) ≡ true
+  ends_where : (s : Runner) (other : Option Acquired) (k : ℕ) (u : ℕ) → who c u ≡ used_by s other → s.family ≡ k → (run : Runs g a x.state s other) → run.thread.mode ≡ Waiting → is_done (slice_get x.state.branches k) ≡ true
   ends_where s other k u e family run waiting =
       let h = ended_waits s.parents run.branch.mode run.thread.mode run.is waiting in
       let began : s.branch ≡ k = ap (outermost s.branch) (sym h.0) ∙ st.roles.started c u s other e ∙ family in
       ap (λ b. is_done (slice_get x.state.branches b)) (sym began) ∙ ap is_done run.known ∙ h.1
 
   -- and the other way round
-  pub waits_where : (s : Runner) (other : Option Hand) (k : ℕ) (u : ℕ) → who c u ≡ used_by s other → s.family ≡ k → (run : Runs g a x.state s other) → is_done (slice_get x.state.branches k) ≡ true → run.thread.mode ≡ Waiting
+  pub waits_where : (s : Runner) (other : Option Acquired) (k : ℕ) (u : ℕ) → who c u ≡ used_by s other → s.family ≡ k → (run : Runs g a x.state s other) → is_done (slice_get x.state.branches k) ≡ true → run.thread.mode ≡ Waiting
   waits_where s other k u e family run done = by s.parents refl
     where
       by : (ps : List Parent) → s.parents ≡ ps → run.thread.mode ≡ Waiting
@@ -131,7 +131,7 @@ module _ (g : Setting) (may_rest : (core thread : ℕ) → Bool) (who : Roles) (
           let began : outermost s.branch (q ∷ qs) ≡ k = ap (outermost s.branch) (sym some) ∙ st.roles.started c u s other e ∙ family in
           let clash : true ≡ false = sym done ∙ ap (λ b. is_done (slice_get x.state.branches b)) (sym began) ∙ not_yet in absurd (let z : ⊥ = cc in z)
 
-  module _ (t n : ℕ) (r : Runner) (hand : Option Hand) (p : Parent) (ps : List Parent) (runs_r : who c t ≡ used_by r hand) (parents : r.parents ≡ p ∷ ps) (sync : p.sync ≡ Some n) (done : is_done (slice_get x.state.branches r.branch) ≡ true) where
+  module _ (t n : ℕ) (r : Runner) (hand : Option Acquired) (p : Parent) (ps : List Parent) (runs_r : who c t ≡ used_by r hand) (parents : r.parents ≡ p ∷ ps) (sync : p.sync ≡ Some n) (done : is_done (slice_get x.state.branches r.branch) ≡ true) where
     is_parent : IsParent r.parents p
     is_parent = subst (λ l. IsParent l p) (sym parents) (inl refl)
 
@@ -150,7 +150,7 @@ module _ (g : Setting) (may_rest : (core thread : ℕ) → Bool) (who : Roles) (
             absurd (once.0 (parent_sync ps q n further its))
 
     -- a tied thread began as one of the branches behind the first
-    pub tied_began : (u : ℕ) (s : Runner) (other : Option Hand) → who c u ≡ used_by s other → s.tie ≡ Some n → (j : ℕ) × (1 ≤ j) × (j < p.count) × (s.family ≡ p.from + j)
+    pub tied_began : (u : ℕ) (s : Runner) (other : Option Acquired) → who c u ≡ used_by s other → s.tie ≡ Some n → (j : ℕ) × (1 ≤ j) × (j < p.count) × (s.family ≡ p.from + j)
     tied_began u s other e tie =
         let k = st.roles.tied c u n s other e tie in
         let q : Parent = k.4 in
@@ -208,7 +208,7 @@ module _ (g : Setting) (may_rest : (core thread : ℕ) → Bool) (who : Roles) (
 -- where the first branch of a `par` has ended, all threads that are tied to its synchroniser wait exactly where all of its branches have ended
 pub joins_together : (g : Setting) (may_rest : (core thread : ℕ) → Bool) (who : Roles) (w : Watched) (x : Told (of_kernel g.program)) →
     Standing g may_rest who w x →
-    (c t n : ℕ) (a : CoreState) (r : Runner) (hand : Option Hand) (p : Parent) (ps : List Parent) →
+    (c t n : ℕ) (a : CoreState) (r : Runner) (hand : Option Acquired) (p : Parent) (ps : List Parent) →
     slice_get w.machine.cores c ≡ Some a → who c t ≡ used_by r hand → r.parents ≡ p ∷ ps → p.sync ≡ Some n →
     is_done (slice_get x.state.branches r.branch) ≡ true →
     all_wait a.threads n ≡ all_done x.state p.from p.count

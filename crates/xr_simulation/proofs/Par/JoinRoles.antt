@@ -3,7 +3,7 @@ use Rattle.std.proofs.Common.{◌≡◌, ◌≢◌, ℕ, ◌<◌, Bool, true, fa
 use Rattle.std.specs.Prelude.{nat_eq}
 use Rattle.std.proofs.lemmas.Bool.{cases_eq, ne_eqb}
 use Rattle.xs_instr.specs.Resources.{is_num}
-use Rattle.xl_par.specs.Hands.{Hand, IsAmong}
+use Rattle.xl_par.specs.Acquired.{Acquired, IsAmong}
 use Rattle.xr_simulation.specs.Parents.{Parent, branches_of, sync_before, syncs_of}
 use Rattle.xr_simulation.specs.Roles.{AreRoles, IsOnce, IsParent, Role, Roles, got_by, outermost, own_branches, unused, used_by}
 use Rattle.xr_simulation.specs.Runners.{Setting, Runner, footprint_of}
@@ -39,7 +39,7 @@ module _ (g : Setting) (who : Roles) (c t : ℕ) (roles : AreRoles g who) (r : R
   joins = λ d u. own_role (nat_eq d c) (core_roles u) (who d u)
 
   abbrev IsTiedTo : Role → Type 0
-  IsTiedTo role = (s : Runner) × (other : Option Hand) × (role ≡ used_by s other) × (s.tie ≡ Some n)
+  IsTiedTo role = (s : Runner) × (other : Option Acquired) × (role ≡ used_by s other) × (s.tie ≡ Some n)
 
   -- where a role is
   pub data Place (d u : ℕ) : Type 0 where
@@ -85,18 +85,18 @@ module _ (g : Setting) (who : Roles) (c t : ℕ) (roles : AreRoles g who) (r : R
   was_own d u e f = ap (λ k. who k u) e ∙ ap (who c) f ∙ was
 
   -- Each thread is in the transfer in which it was, where the runner and those that are joined are in none.
-  pub joins_transfers : r.transfer ≡ None → ((u : ℕ) (s : Runner) (other : Option Hand) → who c u ≡ used_by s other → s.tie ≡ Some n → s.transfer ≡ None) → TransfersAsBefore who joins
+  pub joins_transfers : r.transfer ≡ None → ((u : ℕ) (s : Runner) (other : Option Acquired) → who c u ≡ used_by s other → s.tie ≡ Some n → s.transfer ≡ None) → TransfersAsBefore who joins
   joins_transfers none tied_none = record {
     before = λ d u i other transfer at its. before_by d u i other transfer at its (place d u);
     still = λ d u i other transfer at its. still_by d u i other transfer at its (place d u);
   }
     where
-      before_by : (d u : ℕ) (i : Runner) (other : Option Hand) (transfer : Transfer) → joins d u ≡ used_by i other → i.transfer ≡ Some transfer → Place d u → (j : Runner) × (old : Option Hand) × (who d u ≡ used_by j old) × (j.transfer ≡ Some transfer)
+      before_by : (d u : ℕ) (i : Runner) (other : Option Acquired) (transfer : Transfer) → joins d u ≡ used_by i other → i.transfer ≡ Some transfer → Place d u → (j : Runner) × (old : Option Acquired) × (who d u ≡ used_by j old) × (j.transfer ≡ Some transfer)
       before_by d u i other transfer at its (at_own e f now) = let in_none : None ≡ Some transfer = ap (λ (k : Runner). k.transfer) (same_runner own i (giving_back n) other (sym now ∙ at)) ∙ its in absurd (let z : ⊥ = cc in z)
       before_by d u i other transfer at its (freed e ne now tied) = let both : unused ≡ used_by i other = sym now ∙ at in absurd (let z : ⊥ = cc in z)
       before_by d u i other transfer at its (elsewhere same apart no_tie) = (i, other, sym same ∙ at, its)
 
-      still_by : (d u : ℕ) (i : Runner) (other : Option Hand) (transfer : Transfer) → who d u ≡ used_by i other → i.transfer ≡ Some transfer → Place d u → (j : Runner) × (now : Option Hand) × (joins d u ≡ used_by j now) × (j.transfer ≡ Some transfer)
+      still_by : (d u : ℕ) (i : Runner) (other : Option Acquired) (transfer : Transfer) → who d u ≡ used_by i other → i.transfer ≡ Some transfer → Place d u → (j : Runner) × (now : Option Acquired) × (joins d u ≡ used_by j now) × (j.transfer ≡ Some transfer)
       still_by d u i other transfer at its (at_own e f now) = let in_none : None ≡ Some transfer = sym none ∙ ap (λ (k : Runner). k.transfer) (same_runner r i None other (sym (was_own d u e f) ∙ at)) ∙ its in absurd (let z : ⊥ = cc in z)
       still_by d u i other transfer at its (freed e ne now tied) =
           let tie : i.tie ≡ Some n = ap (λ (k : Runner). k.tie) (sym (same_runner tied.0 i tied.1 other (sym tied.2 ∙ at))) ∙ tied.3 in
@@ -117,16 +117,16 @@ module _ (g : Setting) (who : Roles) (c t : ℕ) (roles : AreRoles g who) (r : R
   owns_sync = inl (subst (λ l. IsAmong l n) (sym syncs_are) (inl refl))
 
   -- Those that are joined have ended: nobody waited on their threads, and they had nothing in hand. The thread itself isn't among them.
-  module _ (bare : (u : ℕ) (s : Runner) (other : Option Hand) → who c u ≡ used_by s other → s.tie ≡ Some n → (s.parents ≡ []) × (other ≡ None)) (own_tie : r.tie ≡ Some n → ⊥) where
+  module _ (bare : (u : ℕ) (s : Runner) (other : Option Acquired) → who c u ≡ used_by s other → s.tie ≡ Some n → (s.parents ≡ []) × (other ≡ None)) (own_tie : r.tie ≡ Some n → ⊥) where
     in_use : (d u : ℕ) → joins d u ≢ unused → Place d u → who d u ≢ unused
     in_use d u some (at_own e f now) is = let both : used_by r None ≡ unused = sym (was_own d u e f) ∙ is in let z : ⊥ = cc in z
     in_use d u some (freed e ne now tied) is = some now
     in_use d u some (elsewhere same not_own no_tie) is = some (same ∙ is)
 
     -- a runner was there before, and had all that it has
-    pub record Before (d u : ℕ) (s : Runner) (other : Option Hand) : Type 0 where
+    pub record Before (d u : ℕ) (s : Runner) (other : Option Acquired) : Type 0 where
       pub runner : Runner
-      pub hand : Option Hand
+      pub hand : Option Acquired
       pub is : who d u ≡ used_by runner hand
       pub core : s.core ≡ runner.core
       pub thread : s.thread ≡ runner.thread
@@ -166,7 +166,7 @@ module _ (g : Setting) (who : Roles) (c t : ℕ) (roles : AreRoles g who) (r : R
       other_tie = λ same_core tie. own_tie tie;
     }
 
-    before_by : (d u : ℕ) (s : Runner) (other : Option Hand) → joins d u ≡ used_by s other → Place d u → Before d u s other
+    before_by : (d u : ℕ) (s : Runner) (other : Option Acquired) → joins d u ≡ used_by s other → Place d u → Before d u s other
     before_by d u s other is (at_own e f now) =
         let both : used_by own (giving_back n) ≡ used_by s other = sym now ∙ is in
         subst (λ i. Before d u i other) (same_runner own s (giving_back n) other both) (subst (λ k. Before d u own k) (same_hand own s (giving_back n) other both) (own_before d u e f))
@@ -193,19 +193,19 @@ module _ (g : Setting) (who : Roles) (c t : ℕ) (roles : AreRoles g who) (r : R
           other_tie = λ same_core tie. no_tie same_core (s, other, w, tie);
         }
 
-    pub before : (d u : ℕ) (s : Runner) (other : Option Hand) → joins d u ≡ used_by s other → Before d u s other
+    pub before : (d u : ℕ) (s : Runner) (other : Option Acquired) → joins d u ≡ used_by s other → Before d u s other
     before d u s other is = before_by d u s other is (place d u)
 
     -- one that isn't tied to the synchroniser is there still, with the outer ones that wait
     pub record IsStill (d u : ℕ) (s : Runner) : Type 0 where
       pub runner : Runner
-      pub hand : Option Hand
+      pub hand : Option Acquired
       pub is : joins d u ≡ used_by runner hand
       pub tie : runner.tie ≡ s.tie
       pub family : runner.family ≡ s.family
       pub parents : (q : Parent) (m : ℕ) → IsParent s.parents q → q.sync ≡ Some m → (d ≡ c → m ≢ n) → IsParent runner.parents q
 
-    still_by : (d u : ℕ) (s : Runner) (other : Option Hand) → who d u ≡ used_by s other → (d ≡ c → u ≢ t → s.tie ≡ Some n → ⊥) → Place d u → IsStill d u s
+    still_by : (d u : ℕ) (s : Runner) (other : Option Acquired) → who d u ≡ used_by s other → (d ≡ c → u ≢ t → s.tie ≡ Some n → ⊥) → Place d u → IsStill d u s
     still_by d u s other is no_tie (at_own e f now) =
         let same = same_runner r s None other (sym (was_own d u e f) ∙ is) in
         record {
@@ -225,11 +225,11 @@ module _ (g : Setting) (who : Roles) (c t : ℕ) (roles : AreRoles g who) (r : R
         absurd (no_tie e ne (ap (λ (i : Runner). i.tie) (sym same) ∙ tied.3))
     still_by d u s other is no_tie (elsewhere same not_own free) = record { runner = s; hand = other; is = same ∙ is; tie = refl; family = refl; parents = λ q m there its ne. there }
 
-    pub still : (d u : ℕ) (s : Runner) (other : Option Hand) → who d u ≡ used_by s other → (d ≡ c → u ≢ t → s.tie ≡ Some n → ⊥) → IsStill d u s
+    pub still : (d u : ℕ) (s : Runner) (other : Option Acquired) → who d u ≡ used_by s other → (d ≡ c → u ≢ t → s.tie ≡ Some n → ⊥) → IsStill d u s
     still d u s other is no_tie = still_by d u s other is no_tie (place d u)
 
     -- one that holds something, or on which others wait, isn't joined
-    holds_not_tied : (d u : ℕ) (s : Runner) (other : Option Hand) → who d u ≡ used_by s other → (s.parents ≡ [] → other ≡ None → ⊥) → d ≡ c → u ≢ t → s.tie ≡ Some n → ⊥
+    holds_not_tied : (d u : ℕ) (s : Runner) (other : Option Acquired) → who d u ≡ used_by s other → (s.parents ≡ [] → other ≡ None → ⊥) → d ≡ c → u ≢ t → s.tie ≡ Some n → ⊥
     holds_not_tied d u s other is some e ne tie = let k = bare u s other (ap (λ i. who i u) (sym e) ∙ is) tie in some k.0 k.1
 
     got_still : (d u v : ℕ) → who d u ≡ got_by v → Place d u → joins d u ≡ got_by v
@@ -242,7 +242,7 @@ module _ (g : Setting) (who : Roles) (c t : ℕ) (roles : AreRoles g who) (r : R
     got_before d u v is (freed e ne now tied) = let both : unused ≡ got_by v = sym now ∙ is in absurd (let z : ⊥ = cc in z)
     got_before d u v is (elsewhere same not_own no_tie) = sym same ∙ is
 
-    holder_by : (d v u : ℕ) (s : Runner) (other : Option Hand) → who d v ≡ used_by s other → IsAmong (held_in other) u → Place d v → (q : Runner) × (more : Option Hand) × (joins d v ≡ used_by q more) × IsAmong (held_in more) u
+    holder_by : (d v u : ℕ) (s : Runner) (other : Option Acquired) → who d v ≡ used_by s other → IsAmong (held_in other) u → Place d v → (q : Runner) × (more : Option Acquired) × (joins d v ≡ used_by q more) × IsAmong (held_in more) u
     holder_by d v u s other is m (at_own e f now) = absurd (subst (λ k. IsAmong (held_in k) u) (sym (same_hand r s None other (sym (was_own d v e f) ∙ is))) m)
     holder_by d v u s other is m (freed e ne now tied) =
         let hands = same_hand tied.0 s tied.1 other (sym tied.2 ∙ is) in
@@ -250,17 +250,17 @@ module _ (g : Setting) (who : Roles) (c t : ℕ) (roles : AreRoles g who) (r : R
         absurd (subst (λ k. IsAmong (held_in k) u) none.1 (subst (λ k. IsAmong (held_in k) u) (sym hands) m))
     holder_by d v u s other is m (elsewhere same not_own no_tie) = (s, other, same ∙ is, m)
 
-    once_by : (d k : ℕ) (s : Runner) (other : Option Hand) → joins d k ≡ used_by s other → Place d k → IsOnce (held_in other)
+    once_by : (d k : ℕ) (s : Runner) (other : Option Acquired) → joins d k ≡ used_by s other → Place d k → IsOnce (held_in other)
     once_by d k s other is (at_own e f now) = subst (λ i. IsOnce (held_in i)) (same_hand own s (giving_back n) other (sym now ∙ is)) tt
     once_by d k s other is (freed e ne now tied) = let both : unused ≡ used_by s other = sym now ∙ is in absurd (let z : ⊥ = cc in z)
     once_by d k s other is (elsewhere same not_own no_tie) = roles.held_once d k s other (sym same ∙ is)
 
-    owned_once_by : (d u : ℕ) (s : Runner) (other : Option Hand) → joins d u ≡ used_by s other → Place d u → IsOnce (syncs_of s.parents)
+    owned_once_by : (d u : ℕ) (s : Runner) (other : Option Acquired) → joins d u ≡ used_by s other → Place d u → IsOnce (syncs_of s.parents)
     owned_once_by d u s other is (at_own e f now) = subst (λ (i : Runner). IsOnce (syncs_of i.parents)) (same_runner own s (giving_back n) other (sym now ∙ is)) once.1
     owned_once_by d u s other is (freed e ne now tied) = let both : unused ≡ used_by s other = sym now ∙ is in absurd (let z : ⊥ = cc in z)
     owned_once_by d u s other is (elsewhere same not_own no_tie) = roles.owned_once d u s other (sym same ∙ is)
 
-    apart_by : (d u m : ℕ) (s : Runner) (other : Option Hand) → joins d u ≡ used_by s other → IsAmong (syncs_of s.parents) m → Place d u → sync_in other ≢ Some m
+    apart_by : (d u m : ℕ) (s : Runner) (other : Option Acquired) → joins d u ≡ used_by s other → IsAmong (syncs_of s.parents) m → Place d u → sync_in other ≢ Some m
     apart_by d u m s other is among (at_own e f now) is_sync =
         let both : used_by own (giving_back n) ≡ used_by s other = sym now ∙ is in
         let its : Some n ≡ Some m = ap sync_in (same_hand own s (giving_back n) other both) ∙ is_sync in

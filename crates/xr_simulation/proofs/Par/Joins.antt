@@ -22,7 +22,7 @@ use Rattle.xc_meaning.specs.States.Items.{Item}
 use Rattle.xc_meaning.specs.States.Worlds.{World, Action, go}
 use Rattle.xl_expr.proofs.Lists.{get_set_other, get_set_same}
 use Rattle.xl_expr.proofs.ResourceParts.{others_same}
-use Rattle.xl_par.specs.Hands.{Hand, IsAmong}
+use Rattle.xl_par.specs.Acquired.{Acquired, IsAmong}
 use Rattle.xr_match.specs.Lives.{Life, Watched}
 use Rattle.xr_match.specs.Systems.{SomeIs}
 use Rattle.xr_simulation.specs.Items.{EndAt, ItemsAt}
@@ -100,7 +100,7 @@ module _ {moment : Moment none_rests} (thread_at : ThreadAt moment None)
   chain = subst (λ l. ParentsWait g x.state r.core r.family l r.branch) parents runs_r_at.parents
 
   -- a thread that is tied to the synchroniser runs a branch that has ended, for which nobody waits
-  pub record IsJoined (u : ℕ) (s : Runner) (other : Option Hand) : Type 0 where
+  pub record IsJoined (u : ℕ) (s : Runner) (other : Option Acquired) : Type 0 where
     pub run : Runs g a x.state s other
     pub no_parents : s.parents ≡ []
     pub over : has_ended run.branch.mode ≡ true
@@ -112,7 +112,7 @@ module _ {moment : Moment none_rests} (thread_at : ThreadAt moment None)
   over_calm ended items bit over h = h
   over_calm erred items bit over h = absurd (let z : ⊥ = cc in z)
 
-  pub joined_thread : (u : ℕ) (s : Runner) (other : Option Hand) → who c u ≡ used_by s other → s.tie ≡ Some n → IsJoined u s other
+  pub joined_thread : (u : ℕ) (s : Runner) (other : Option Acquired) → who c u ≡ used_by s other → s.tie ≡ Some n → IsJoined u s other
   joined_thread u s other e tie =
       let run = runs_at_thread g none_rests who w x st c a at_c u s other e in
       let k = tied_began g none_rests who w x st c a at_c t n r None p ps runs_r parents sync has_done u s other e tie in
@@ -122,7 +122,7 @@ module _ {moment : Moment none_rests} (thread_at : ThreadAt moment None)
       record { run = run; no_parents = h.0; over = h.1 }
 
   -- with nothing in hand
-  bare : (u : ℕ) (s : Runner) (other : Option Hand) → who c u ≡ used_by s other → s.tie ≡ Some n → (s.parents ≡ []) × (other ≡ None)
+  bare : (u : ℕ) (s : Runner) (other : Option Acquired) → who c u ≡ used_by s other → s.tie ≡ Some n → (s.parents ≡ []) × (other ≡ None)
   bare u s other e tie = by (slice_get x.state.branches s.branch) refl stands
     where
       j : IsJoined u s other
@@ -168,10 +168,10 @@ module _ {moment : Moment none_rests} (thread_at : ThreadAt moment None)
   roles' = roles_join g who c t st.roles r runs_r p ps parents n sync bare own_tie
 
   -- each thread that is tied to the synchroniser is one of those
-  pub tied_role : (u : ℕ) (thread : Thread) → slice_get a.threads u ≡ Some thread → is_tied thread n ≡ true → (s : Runner) × (other : Option Hand) × (who c u ≡ used_by s other) × (s.tie ≡ Some n)
+  pub tied_role : (u : ℕ) (thread : Thread) → slice_get a.threads u ≡ Some thread → is_tied thread n ≡ true → (s : Runner) × (other : Option Acquired) × (who c u ≡ used_by s other) × (s.tie ≡ Some n)
   tied_role u thread there tied = by (who c u) refl
     where
-      by : (o : Role) → who c u ≡ o → (s : Runner) × (other : Option Hand) × (who c u ≡ used_by s other) × (s.tie ≡ Some n)
+      by : (o : Role) → who c u ≡ o → (s : Runner) × (other : Option Acquired) × (who c u ≡ used_by s other) × (s.tie ≡ Some n)
       by unused e =
           let few : u < 8 = let within = slice_get_within a.threads u thread there in let eight = used.threads in omega arith in
           let free = subst IsFree there (used.unused u few e) in
@@ -243,7 +243,7 @@ module _ {moment : Moment none_rests} (thread_at : ThreadAt moment None)
         by (Some thread) e = joined_other a.threads n u thread e (not_tied thread e (is_tied thread n) refl) ∙ sym e
 
     -- one that is, is unused
-    tied_left : (u : ℕ) (s : Runner) (other : Option Hand) → u ≢ t → who c u ≡ used_by s other → s.tie ≡ Some n → (thread : Thread) × (slice_get left.threads u ≡ Some thread) × IsFree (Some thread) × (thread.tie ≡ None)
+    tied_left : (u : ℕ) (s : Runner) (other : Option Acquired) → u ≢ t → who c u ≡ used_by s other → s.tie ≡ Some n → (thread : Thread) × (slice_get left.threads u ≡ Some thread) × IsFree (Some thread) × (thread.tie ≡ None)
     tied_left u s other ne e tie =
         let run = (joined_thread u s other e tie).run in
         let there : slice_get a.threads u ≡ Some run.thread = ap (slice_get a.threads) (sym (st.roles.thread c u s other e)) ∙ run.there in (
@@ -276,7 +276,7 @@ module _ {moment : Moment none_rests} (thread_at : ThreadAt moment None)
         by true e = let both : true ≡ false = sym (or_right (nat_eq u t) (tied_role_of (who c u)) e) ∙ m in absurd (let z : ⊥ = cc in z)
         by false e = e
 
-    role_not_tied : (u : ℕ) (s : Runner) (other : Option Hand) → tied_role_of (who c u) ≡ false → who c u ≡ used_by s other → s.tie ≡ Some n → ⊥
+    role_not_tied : (u : ℕ) (s : Runner) (other : Option Acquired) → tied_role_of (who c u) ≡ false → who c u ≡ used_by s other → s.tie ≡ Some n → ⊥
     role_not_tied u s other m e tie = let both : true ≡ false = sym (num_same s.tie n tie) ∙ ap tied_role_of (sym e) ∙ m in let z : ⊥ = cc in z
 
     same_thread : (u : ℕ) → u ≢ t → tied_role_of (who c u) ≡ false → slice_get left.threads u ≡ slice_get a.threads u
@@ -337,7 +337,7 @@ module _ {moment : Moment none_rests} (thread_at : ThreadAt moment None)
             let ne : u ≢ t = λ e. let both : got_by s ≡ used_by r None = sym got ∙ ap (who c) e ∙ runs_r in let z : ⊥ = cc in z in
             ap (λ b. b || tied_role_of (who c u)) (ne_eqb u t ne) ∙ ap tied_role_of got
 
-        tied_role_then : (u : ℕ) → u ≢ t → moved u ≡ true → (s : Runner) × (other : Option Hand) × (who c u ≡ used_by s other) × (s.tie ≡ Some n)
+        tied_role_then : (u : ℕ) → u ≢ t → moved u ≡ true → (s : Runner) × (other : Option Acquired) × (who c u ≡ used_by s other) × (s.tie ≡ Some n)
         tied_role_then u ne m = roles_after.tied_then g who c t st.roles r runs_r p ps parents n sync (who c u) (sym (ap (λ b. b || tied_role_of (who c u)) (ne_eqb u t ne)) ∙ m)
 
         freed_not_tied : (u k : ℕ) (thread : Thread) → u ≢ t → moved u ≡ true → slice_get left.threads u ≡ Some thread → is_tied thread k ≡ true → ⊥
@@ -361,7 +361,7 @@ module _ {moment : Moment none_rests} (thread_at : ThreadAt moment None)
           used.owned u m b.runner b.hand b.is (b.owns m its);
     }
       where
-        not_tied_here : (u : ℕ) → (◌≡◌ {A = ℕ} c c → (s : Runner) × (other : Option Hand) × (who c u ≡ used_by s other) × (s.tie ≡ Some n) → ⊥) → u ≢ t → slice_get left.threads u ≡ slice_get a.threads u
+        not_tied_here : (u : ℕ) → (◌≡◌ {A = ℕ} c c → (s : Runner) × (other : Option Acquired) × (who c u ≡ used_by s other) × (s.tie ≡ Some n) → ⊥) → u ≢ t → slice_get left.threads u ≡ slice_get a.threads u
         not_tied_here u no_tie ne = untied_left u ne (λ thread there tied. no_tie refl (tied_role u thread there tied))
 
         free_by : (u : ℕ) → u < 8 → who' c u ≡ unused → roles_after.Place g who c t st.roles r runs_r p ps parents n sync c u → IsFree (slice_get left.threads u)
@@ -370,7 +370,7 @@ module _ {moment : Moment none_rests} (thread_at : ThreadAt moment None)
         free_by u lt at (roles_after.elsewhere same not_own no_tie) =
             subst IsFree (sym (not_tied_here u no_tie (λ e. not_own (refl, e)))) (used.unused u lt (sym same ∙ at))
 
-        got_by_place : (u k m : ℕ) (q : Runner) (hand : Option Hand) → who' c u ≡ got_by k → who' c k ≡ used_by q hand → sync_in hand ≡ Some m → roles_after.Place g who c t st.roles r runs_r p ps parents n sync c u → roles_after.Place g who c t st.roles r runs_r p ps parents n sync c k → IsWaitingTied m (slice_get left.threads u)
+        got_by_place : (u k m : ℕ) (q : Runner) (hand : Option Acquired) → who' c u ≡ got_by k → who' c k ≡ used_by q hand → sync_in hand ≡ Some m → roles_after.Place g who c t st.roles r runs_r p ps parents n sync c u → roles_after.Place g who c t st.roles r runs_r p ps parents n sync c k → IsWaitingTied m (slice_get left.threads u)
         got_by_place u k m q hand at its in_hand (roles_after.at_own e f now) other = let both : used_by maker (giving_back n) ≡ got_by k = sym now ∙ at in absurd (let z : ⊥ = cc in z)
         got_by_place u k m q hand at its in_hand (roles_after.freed e ne now tied) other = let both : unused ≡ got_by k = sym now ∙ at in absurd (let z : ⊥ = cc in z)
         got_by_place u k m q hand at its in_hand (roles_after.elsewhere same not_own no_tie) (roles_after.at_own e f now) =
@@ -389,7 +389,7 @@ module _ {moment : Moment none_rests} (thread_at : ThreadAt moment None)
             (subst (λ l. IsAmong l m) (roles_after.syncs_are g who c t st.roles r runs_r p ps parents n sync) among)
         own_then m (inr none) = let e : None ≡ Some m = none in absurd (let z : ⊥ = cc in z)
 
-        taken_by : (m u : ℕ) (q : Runner) (hand : Option Hand) → who c u ≡ used_by q hand → Owns q hand m → roles_after.Place g who c t st.roles r runs_r p ps parents n sync c u → (k : ℕ) × (i : Runner) × (other : Option Hand) × (who' c k ≡ used_by i other) × Owns i other m
+        taken_by : (m u : ℕ) (q : Runner) (hand : Option Acquired) → who c u ≡ used_by q hand → Owns q hand m → roles_after.Place g who c t st.roles r runs_r p ps parents n sync c u → (k : ℕ) × (i : Runner) × (other : Option Acquired) × (who' c k ≡ used_by i other) × Owns i other m
         taken_by m u q hand at owns (roles_after.at_own e f now) =
             let both : used_by r None ≡ used_by q hand = sym runs_r ∙ ap (who c) (sym f) ∙ at in
             let mine : Owns r None m = subst (λ i. Owns i None m) (sym (same_runner r q None hand both)) (subst (λ h. Owns q h m) (sym (same_hand r q None hand both)) owns) in
@@ -537,14 +537,14 @@ module _ {moment : Moment none_rests} (thread_at : ThreadAt moment None)
     ended_is erred h = absurd (let z : ⊥ = cc in z)
 
     -- whose branch has ended needs nothing
-    needs_nothing : (u : ℕ) (q : Runner) (hand : Option Hand) → who c u ≡ used_by q hand → is_done (slice_get x.state.branches q.branch) ≡ true → q.footprint ≡ footprint_of []
+    needs_nothing : (u : ℕ) (q : Runner) (hand : Option Acquired) → who c u ≡ used_by q hand → is_done (slice_get x.state.branches q.branch) ≡ true → q.footprint ≡ footprint_of []
     needs_nothing u q hand at done =
         let k = works_at moment c u q hand at in
         let over : k.branch.mode ≡ ended = ended_is k.branch.mode (sym (ap is_done k.known) ∙ done) in
         k.footprint ∙ ap footprint_of (forest.stopped q.branch k.branch k.known (inl over))
 
     -- a runner is there still, or needs nothing
-    needs_by : (u : ℕ) (q : Runner) (hand : Option Hand) → who c u ≡ used_by q hand → roles_after.Place g who c t st.roles r runs_r p ps parents n sync c u → (q.footprint ≡ footprint_of []) ⊎ (who' c u ≡ used_by q hand)
+    needs_by : (u : ℕ) (q : Runner) (hand : Option Acquired) → who c u ≡ used_by q hand → roles_after.Place g who c t st.roles r runs_r p ps parents n sync c u → (q.footprint ≡ footprint_of []) ⊎ (who' c u ≡ used_by q hand)
     needs_by u q hand at (roles_after.at_own e f now) =
         let same = same_runner r q None hand (sym runs_r ∙ ap (who c) (sym f) ∙ at) in
         inl (needs_nothing u q hand at (subst (λ (i : Runner). is_done (slice_get x.state.branches i.branch) ≡ true) same has_done))
@@ -554,7 +554,7 @@ module _ {moment : Moment none_rests} (thread_at : ThreadAt moment None)
         inl (needs_nothing u q hand at (subst (λ (i : Runner). is_done (slice_get x.state.branches i.branch) ≡ true) same (ap is_done o.run.known ∙ o.over)))
     needs_by u q hand at (roles_after.elsewhere same not_own no_tie) = inr (same ∙ at)
 
-    needs : (u : ℕ) (q : Runner) (hand : Option Hand) → who c u ≡ used_by q hand → (q.footprint ≡ footprint_of []) ⊎ (who' c u ≡ used_by q hand)
+    needs : (u : ℕ) (q : Runner) (hand : Option Acquired) → who c u ≡ used_by q hand → (q.footprint ≡ footprint_of []) ⊎ (who' c u ≡ used_by q hand)
     needs u q hand at = needs_by u q hand at (roles_after.place g who c t st.roles r runs_r p ps parents n sync c u)
 
     -- what is loose was so before
@@ -686,7 +686,7 @@ module _ {moment : Moment none_rests} (thread_at : ThreadAt moment None)
     far_by d u ne (roles_after.elsewhere same not_own no_tie) = same
 
     -- whose branch has ended is in no transfer
-    in_none : (u : ℕ) (q : Runner) (hand : Option Hand) → who c u ≡ used_by q hand → is_done (slice_get x.state.branches q.branch) ≡ true → q.transfer ≡ None
+    in_none : (u : ℕ) (q : Runner) (hand : Option Acquired) → who c u ≡ used_by q hand → is_done (slice_get x.state.branches q.branch) ≡ true → q.transfer ≡ None
     in_none u q hand at done =
         let k = works_at moment c u q hand at in
         k.done (ended_is k.branch.mode (sym (ap is_done k.known) ∙ done))
@@ -698,7 +698,7 @@ module _ {moment : Moment none_rests} (thread_at : ThreadAt moment None)
         (λ u s other at tie. let o = joined_thread u s other at tie in in_none u s other at (ap is_done o.run.known ∙ o.over))
 
     -- the maker is in none
-    none_inside : (u : ℕ) (q : Runner) (hand : Option Hand) (transfer : Transfer) → moved u ≡ true → who' c u ≡ used_by q hand → q.transfer ≡ Some transfer → roles_after.Place g who c t st.roles r runs_r p ps parents n sync c u → ⊥
+    none_inside : (u : ℕ) (q : Runner) (hand : Option Acquired) (transfer : Transfer) → moved u ≡ true → who' c u ≡ used_by q hand → q.transfer ≡ Some transfer → roles_after.Place g who c t st.roles r runs_r p ps parents n sync c u → ⊥
     none_inside u q hand transfer m at its (roles_after.at_own e f now) =
         let not_one : None ≡ Some transfer = ap (λ (i : Runner). i.transfer) (same_runner maker q (giving_back n) hand (sym now ∙ at)) ∙ its in let z : ⊥ = cc in z
     none_inside u q hand transfer m at its (roles_after.freed e ne now tied) = let both : unused ≡ used_by q hand = sym now ∙ at in let z : ⊥ = cc in z

@@ -3,7 +3,7 @@ use Rattle.std.proofs.Common.{◌≡◌, ◌≢◌, ℕ, suc, ◌+◌, ◌<◌, 
 use Rattle.std.specs.Prelude.{nat_eq}
 use Rattle.std.proofs.lemmas.Bool.{cases_eq, ne_eqb}
 use Rattle.xc_meaning.specs.States.Items.{Item}
-use Rattle.xl_par.specs.Hands.{Hand, IsAmong}
+use Rattle.xl_par.specs.Acquired.{Acquired, IsAmong}
 use Rattle.xl_plan.specs.Layout.{temporary_of}
 use Rattle.xl_ends.specs.Ends.{Sides}
 use Rattle.xr_simulation.specs.Parents.{Parent, syncs_of}
@@ -15,7 +15,7 @@ use Rattle.xr_simulation.proofs.Relation.CoreSteps.{same_hand, same_runner}
 use Rattle.xr_simulation.proofs.Channels.Wiring.{TransfersAsBefore}
 use Rattle.xr_simulation.proofs.Par.Indices.{among_index, index_among, index_of, index_once, index_within}
 
-module _ (g : Setting) (who : Roles) (c t : ℕ) (roles : AreRoles g who) (r : Runner) (h : Hand) (was : who c t ≡ used_by r (Some h)) (sync : ℕ) (sync_is : h.sync ≡ Some sync) (from : ℕ) (first rest : List Item) (items_of : (index : ℕ) → List Item) (sides_of : (index : ℕ) → Sides) where
+module _ (g : Setting) (who : Roles) (c t : ℕ) (roles : AreRoles g who) (r : Runner) (h : Acquired) (was : who c t ≡ used_by r (Some h)) (sync : ℕ) (sync_is : h.sync ≡ Some sync) (from : ℕ) (first rest : List Item) (items_of : (index : ℕ) → List Item) (sides_of : (index : ℕ) → Sides) where
   abbrev pub parent : Parent
   parent = record {
     branch = r.branch;
@@ -110,7 +110,7 @@ module _ (g : Setting) (who : Roles) (c t : ℕ) (roles : AreRoles g who) (r : R
   in_use d u some (elsewhere same not_own no_kid) is = some (same ∙ is)
 
   -- who owns a synchroniser owned it before
-  owned_by : (d u n : ℕ) (s : Runner) (other : Option Hand) → opens d u ≡ used_by s other → Owns s other n → Place d u → (q : Runner) × (hand : Option Hand) × (who d u ≡ used_by q hand) × Owns q hand n
+  owned_by : (d u n : ℕ) (s : Runner) (other : Option Acquired) → opens d u ≡ used_by s other → Owns s other n → Place d u → (q : Runner) × (hand : Option Acquired) × (who d u ≡ used_by q hand) × Owns q hand n
   owned_by d u n s other is owns (at_own e f now) =
       let both : used_by own None ≡ used_by s other = sym now ∙ is in
       let owns' : Owns own None n = subst (λ i. Owns i None n) (sym (same_runner own s None other both)) (subst (λ k. Owns s k n) (sym (same_hand own s None other both)) owns) in
@@ -126,19 +126,19 @@ module _ (g : Setting) (who : Roles) (c t : ℕ) (roles : AreRoles g who) (r : R
       absurd (⊎_elim (λ (m : IsAmong [] n). m) (λ (none : None ≡ Some n). let y : ⊥ = cc in y) owns')
   owned_by d u n s other is owns (elsewhere same not_own no_kid) = (s, other, sym same ∙ is, owns)
 
-  pub owned_before : (d u n : ℕ) (s : Runner) (other : Option Hand) → opens d u ≡ used_by s other → Owns s other n → (q : Runner) × (hand : Option Hand) × (who d u ≡ used_by q hand) × Owns q hand n
+  pub owned_before : (d u n : ℕ) (s : Runner) (other : Option Acquired) → opens d u ≡ used_by s other → Owns s other n → (q : Runner) × (hand : Option Acquired) × (who d u ≡ used_by q hand) × Owns q hand n
   owned_before d u n s other is owns = owned_by d u n s other is owns (place d u)
 
   -- a runner is there still, with those that wait for it
   pub record IsStill (d u : ℕ) (s : Runner) : Type 0 where
     pub runner : Runner
-    pub hand : Option Hand
+    pub hand : Option Acquired
     pub is : opens d u ≡ used_by runner hand
     pub tie : runner.tie ≡ s.tie
     pub family : runner.family ≡ s.family
     pub parents : (q : Parent) → IsParent s.parents q → IsParent runner.parents q
 
-  still_by : (d u : ℕ) (s : Runner) (other : Option Hand) → who d u ≡ used_by s other → Place d u → IsStill d u s
+  still_by : (d u : ℕ) (s : Runner) (other : Option Acquired) → who d u ≡ used_by s other → Place d u → IsStill d u s
   still_by d u s other is (at_own e f now) =
       let same = same_runner r s (Some h) other (sym (was_own d u e f) ∙ is) in
       record {
@@ -152,7 +152,7 @@ module _ (g : Setting) (who : Roles) (c t : ℕ) (roles : AreRoles g who) (r : R
   still_by d u s other is (at_kid i e among now old) = let both : got_by t ≡ used_by s other = sym old ∙ is in absurd (let z : ⊥ = cc in z)
   still_by d u s other is (elsewhere same not_own no_kid) = record { runner = s; hand = other; is = same ∙ is; tie = refl; family = refl; parents = λ q m. m }
 
-  pub still : (d u : ℕ) (s : Runner) (other : Option Hand) → who d u ≡ used_by s other → IsStill d u s
+  pub still : (d u : ℕ) (s : Runner) (other : Option Acquired) → who d u ≡ used_by s other → IsStill d u s
   still d u s other is = still_by d u s other is (place d u)
 
   -- Each thread is in the transfer in which it was, where the runner is in none.
@@ -162,25 +162,25 @@ module _ (g : Setting) (who : Roles) (c t : ℕ) (roles : AreRoles g who) (r : R
     still = λ d u i other transfer at its. still_inside d u i other transfer at its (place d u);
   }
     where
-      before_by : (d u : ℕ) (i : Runner) (other : Option Hand) (transfer : Transfer) → opens d u ≡ used_by i other → i.transfer ≡ Some transfer → Place d u → (j : Runner) × (old : Option Hand) × (who d u ≡ used_by j old) × (j.transfer ≡ Some transfer)
+      before_by : (d u : ℕ) (i : Runner) (other : Option Acquired) (transfer : Transfer) → opens d u ≡ used_by i other → i.transfer ≡ Some transfer → Place d u → (j : Runner) × (old : Option Acquired) × (who d u ≡ used_by j old) × (j.transfer ≡ Some transfer)
       before_by d u i other transfer at its (at_own e f now) = let in_none : None ≡ Some transfer = ap (λ (k : Runner). k.transfer) (same_runner own i None other (sym now ∙ at)) ∙ its in absurd (let z : ⊥ = cc in z)
       before_by d u i other transfer at its (at_kid k e among now old) = let in_none : None ≡ Some transfer = ap (λ (q : Runner). q.transfer) (same_runner (kid k u) i None other (sym now ∙ at)) ∙ its in absurd (let z : ⊥ = cc in z)
       before_by d u i other transfer at its (elsewhere same apart no_kid) = (i, other, sym same ∙ at, its)
 
-      still_inside : (d u : ℕ) (i : Runner) (other : Option Hand) (transfer : Transfer) → who d u ≡ used_by i other → i.transfer ≡ Some transfer → Place d u → (j : Runner) × (now : Option Hand) × (opens d u ≡ used_by j now) × (j.transfer ≡ Some transfer)
+      still_inside : (d u : ℕ) (i : Runner) (other : Option Acquired) (transfer : Transfer) → who d u ≡ used_by i other → i.transfer ≡ Some transfer → Place d u → (j : Runner) × (now : Option Acquired) × (opens d u ≡ used_by j now) × (j.transfer ≡ Some transfer)
       still_inside d u i other transfer at its (at_own e f now) = let in_none : None ≡ Some transfer = sym none ∙ ap (λ (k : Runner). k.transfer) (same_runner r i (Some h) other (sym (was_own d u e f) ∙ at)) ∙ its in absurd (let z : ⊥ = cc in z)
       still_inside d u i other transfer at its (at_kid k e among now old) = let both : got_by t ≡ used_by i other = sym old ∙ at in absurd (let z : ⊥ = cc in z)
       still_inside d u i other transfer at its (elsewhere same apart no_kid) = (i, other, same ∙ at, its)
 
   -- The new branches are nobody's yet.
-  module _ (below : (d u b : ℕ) (s : Runner) (other : Option Hand) → who d u ≡ used_by s other → IsAmong (own_branches s) b → b < from) where
+  module _ (below : (d u b : ℕ) (s : Runner) (other : Option Acquired) → who d u ≡ used_by s other → IsAmong (own_branches s) b → b < from) where
     -- whose a branch is
     data Whose (d u b : ℕ) (s : Runner) : Type 0 where
-      old_one : (q : Runner) (hand : Option Hand) → who d u ≡ used_by q hand → IsAmong (own_branches q) b → b < from → Whose d u b s
+      old_one : (q : Runner) (hand : Option Acquired) → who d u ≡ used_by q hand → IsAmong (own_branches q) b → b < from → Whose d u b s
       new_first : d ≡ c → u ≡ t → b ≡ from → Whose d u b s
       new_other : (i : ℕ) → d ≡ c → index_among h.threads u ≡ Some i → b ≡ from + i → Whose d u b s
 
-    whose_by : (d u b : ℕ) (s : Runner) (other : Option Hand) → opens d u ≡ used_by s other → IsAmong (own_branches s) b → Place d u → Whose d u b s
+    whose_by : (d u b : ℕ) (s : Runner) (other : Option Acquired) → opens d u ≡ used_by s other → IsAmong (own_branches s) b → Place d u → Whose d u b s
     whose_by d u b s other is m (at_own e f now) =
         ⊎_elim
         (λ (same : b ≡ from). new_first e f same)
@@ -208,7 +208,7 @@ module _ (g : Setting) (who : Roles) (c t : ℕ) (roles : AreRoles g who) (r : R
 
     -- what each field says, by where a role is
 
-    core_by : (d u : ℕ) (s : Runner) (other : Option Hand) → opens d u ≡ used_by s other → Place d u →
+    core_by : (d u : ℕ) (s : Runner) (other : Option Acquired) → opens d u ≡ used_by s other → Place d u →
         (s.core ≡ d) × (d < 4) × (s.thread ≡ u) × (s.block ≡ outside) × (s.stack ≡ temporary_of g.program d u)
     core_by d u s other is (at_own e f now) =
         let w = was_own d u e f in
@@ -240,28 +240,28 @@ module _ (g : Setting) (who : Roles) (c t : ℕ) (roles : AreRoles g who) (r : R
               d u s other w,
         )
 
-    started_by : (d u : ℕ) (s : Runner) (other : Option Hand) → opens d u ≡ used_by s other → Place d u → outermost s.branch s.parents ≡ s.family
+    started_by : (d u : ℕ) (s : Runner) (other : Option Acquired) → opens d u ≡ used_by s other → Place d u → outermost s.branch s.parents ≡ s.family
     started_by d u s other is (at_own e f now) =
         subst (λ (i : Runner). outermost i.branch i.parents ≡ i.family) (same_runner own s None other (sym now ∙ is)) (roles.started d u r (Some h) (was_own d u e f))
     started_by d u s other is (at_kid i e among now old) = subst (λ (q : Runner). outermost q.branch q.parents ≡ q.family) (same_runner (kid i u) s None other (sym now ∙ is)) refl
     started_by d u s other is (elsewhere same not_own no_kid) = roles.started d u s other (sym same ∙ is)
 
     -- who got threads that are not run yet
-    got_by_other : (d u v : ℕ) → opens d u ≡ got_by v → Place d u → (s : Runner) × (other : Option Hand) × (opens d v ≡ used_by s other) × IsAmong (held_in other) u
+    got_by_other : (d u v : ℕ) → opens d u ≡ got_by v → Place d u → (s : Runner) × (other : Option Acquired) × (opens d v ≡ used_by s other) × IsAmong (held_in other) u
     got_by_other d u v is (at_own e f now) = let both : used_by own None ≡ got_by v = sym now ∙ is in absurd (let z : ⊥ = cc in z)
     got_by_other d u v is (at_kid i e among now old) = let both : used_by (kid i u) None ≡ got_by v = sym now ∙ is in absurd (let z : ⊥ = cc in z)
     got_by_other d u v is (elsewhere same not_own no_kid) =
         let k = roles.got d u v (sym same ∙ is) in
         holder k.0 k.1 k.2 k.3 (place d v)
       where
-        holder : (s : Runner) (other : Option Hand) → who d v ≡ used_by s other → IsAmong (held_in other) u → Place d v → (q : Runner) × (more : Option Hand) × (opens d v ≡ used_by q more) × IsAmong (held_in more) u
+        holder : (s : Runner) (other : Option Acquired) → who d v ≡ used_by s other → IsAmong (held_in other) u → Place d v → (q : Runner) × (more : Option Acquired) × (opens d v ≡ used_by q more) × IsAmong (held_in more) u
         holder s other its m (at_own e f now) =
             let hands = same_hand r s (Some h) other (sym (was_own d v e f) ∙ its) in
             absurd (no_kid e (subst (λ k. IsAmong (held_in k) u) (sym hands) m))
         holder s other its m (at_kid i e among now old) = let both : got_by t ≡ used_by s other = sym old ∙ its in absurd (let z : ⊥ = cc in z)
         holder s other its m (elsewhere there away free) = (s, other, there ∙ its, m)
 
-    held_by_other : (d k u : ℕ) (s : Runner) (other : Option Hand) → opens d k ≡ used_by s other → IsAmong (held_in other) u → Place d k → opens d u ≡ got_by k
+    held_by_other : (d k u : ℕ) (s : Runner) (other : Option Acquired) → opens d k ≡ used_by s other → IsAmong (held_in other) u → Place d k → opens d u ≡ got_by k
     held_by_other d k u s other is m (at_own e f now) = absurd (subst (λ i. IsAmong (held_in i) u) (sym (same_hand own s None other (sym now ∙ is))) m)
     held_by_other d k u s other is m (at_kid i e among now old) = absurd (subst (λ q. IsAmong (held_in q) u) (sym (same_hand (kid i k) s None other (sym now ∙ is))) m)
     held_by_other d k u s other is m (elsewhere same not_own no_kid) = by (roles.held d k u s other (sym same ∙ is) m) (place d u)
@@ -271,34 +271,34 @@ module _ (g : Setting) (who : Roles) (c t : ℕ) (roles : AreRoles g who) (r : R
         by got (at_kid i e among now old) = let both : got_by t ≡ got_by k = sym old ∙ got in absurd (not_own (e, (let z : k ≡ t = cc in z)))
         by got (elsewhere there away free) = there ∙ got
 
-    once_by : (d k : ℕ) (s : Runner) (other : Option Hand) → opens d k ≡ used_by s other → Place d k → IsOnce (held_in other)
+    once_by : (d k : ℕ) (s : Runner) (other : Option Acquired) → opens d k ≡ used_by s other → Place d k → IsOnce (held_in other)
     once_by d k s other is (at_own e f now) = subst (λ i. IsOnce (held_in i)) (same_hand own s None other (sym now ∙ is)) tt
     once_by d k s other is (at_kid i e among now old) = subst (λ q. IsOnce (held_in q)) (same_hand (kid i k) s None other (sym now ∙ is)) tt
     once_by d k s other is (elsewhere same not_own no_kid) = roles.held_once d k s other (sym same ∙ is)
 
-    owned_once_by : (d u : ℕ) (s : Runner) (other : Option Hand) → opens d u ≡ used_by s other → Place d u → IsOnce (syncs_of s.parents)
+    owned_once_by : (d u : ℕ) (s : Runner) (other : Option Acquired) → opens d u ≡ used_by s other → Place d u → IsOnce (syncs_of s.parents)
     owned_once_by d u s other is (at_own e f now) =
         subst (λ (i : Runner). IsOnce (syncs_of i.parents)) (same_runner own s None other (sym now ∙ is))
         ((λ m. roles.owned_apart c t sync r (Some h) was m sync_is), roles.owned_once c t r (Some h) was)
     owned_once_by d u s other is (at_kid i e among now old) = subst (λ (q : Runner). IsOnce (syncs_of q.parents)) (same_runner (kid i u) s None other (sym now ∙ is)) tt
     owned_once_by d u s other is (elsewhere same not_own no_kid) = roles.owned_once d u s other (sym same ∙ is)
 
-    apart_by : (d u n : ℕ) (s : Runner) (other : Option Hand) → opens d u ≡ used_by s other → IsAmong (syncs_of s.parents) n → Place d u → sync_in other ≢ Some n
+    apart_by : (d u n : ℕ) (s : Runner) (other : Option Acquired) → opens d u ≡ used_by s other → IsAmong (syncs_of s.parents) n → Place d u → sync_in other ≢ Some n
     apart_by d u n s other is m (at_own e f now) is_sync = let none : None ≡ Some n = ap sync_in (same_hand own s None other (sym now ∙ is)) ∙ is_sync in let z : ⊥ = cc in z
     apart_by d u n s other is m (at_kid i e among now old) is_sync = let none : None ≡ Some n = ap sync_in (same_hand (kid i u) s None other (sym now ∙ is)) ∙ is_sync in let z : ⊥ = cc in z
     apart_by d u n s other is m (elsewhere same not_own no_kid) is_sync = roles.owned_apart d u n s other (sym same ∙ is) m is_sync
 
     abbrev HasKid : (d n family : ℕ) → Type 0
-    HasKid d n family = (u : ℕ) × (s : Runner) × (other : Option Hand) × (opens d u ≡ used_by s other) × (s.tie ≡ Some n) × (s.family ≡ family)
+    HasKid d n family = (u : ℕ) × (s : Runner) × (other : Option Acquired) × (opens d u ≡ used_by s other) × (s.tie ≡ Some n) × (s.family ≡ family)
 
     -- a branch behind the first has its thread
-    old_kid : (d u n j : ℕ) (s : Runner) (other : Option Hand) (p : Parent) → who d u ≡ used_by s other → IsParent s.parents p → p.sync ≡ Some n → 1 ≤ j → j < p.count → HasKid d n (p.from + j)
+    old_kid : (d u n j : ℕ) (s : Runner) (other : Option Acquired) (p : Parent) → who d u ≡ used_by s other → IsParent s.parents p → p.sync ≡ Some n → 1 ≤ j → j < p.count → HasKid d n (p.from + j)
     old_kid d u n j s other p is parent_is its some few =
         let k = roles.kids d u n j s other p is parent_is its some few in
         let there = still d k.0 k.1 k.2 k.3 in
         (k.0, there.runner, there.hand, there.is, there.tie ∙ k.4, there.family ∙ k.5)
 
-    kids_by : (d u n j : ℕ) (s : Runner) (other : Option Hand) (p : Parent) → opens d u ≡ used_by s other → IsParent s.parents p → p.sync ≡ Some n → 1 ≤ j → j < p.count → Place d u → HasKid d n (p.from + j)
+    kids_by : (d u n j : ℕ) (s : Runner) (other : Option Acquired) (p : Parent) → opens d u ≡ used_by s other → IsParent s.parents p → p.sync ≡ Some n → 1 ≤ j → j < p.count → Place d u → HasKid d n (p.from + j)
     kids_by d u n j s other p is parent_is its some few (at_own e f now) =
         ⊎_elim
         (λ (same : p ≡ parent).
@@ -313,17 +313,17 @@ module _ (g : Setting) (who : Roles) (c t : ℕ) (roles : AreRoles g who) (r : R
 
     abbrev HasOwner : (d n family : ℕ) → Type 0
     HasOwner d n family =
-        (u : ℕ) × (j : ℕ) × (q : Runner) × (hand : Option Hand) × (p : Parent) × (opens d u ≡ used_by q hand) × IsParent q.parents p
+        (u : ℕ) × (j : ℕ) × (q : Runner) × (hand : Option Acquired) × (p : Parent) × (opens d u ≡ used_by q hand) × IsParent q.parents p
         × (p.sync ≡ Some n) × (1 ≤ j) × (j < p.count) × (family ≡ p.from + j)
 
     -- and the other way round
-    old_owner : (d u n : ℕ) (s : Runner) (other : Option Hand) → who d u ≡ used_by s other → s.tie ≡ Some n → HasOwner d n s.family
+    old_owner : (d u n : ℕ) (s : Runner) (other : Option Acquired) → who d u ≡ used_by s other → s.tie ≡ Some n → HasOwner d n s.family
     old_owner d u n s other is tie =
         let k = roles.tied d u n s other is tie in
         let there = still d k.0 k.2 k.3 k.5 in
         (k.0, k.1, there.runner, there.hand, k.4, there.is, there.parents k.4 k.6, k.7, k.8, k.9, k.10)
 
-    tied_by : (d u n : ℕ) (s : Runner) (other : Option Hand) → opens d u ≡ used_by s other → s.tie ≡ Some n → Place d u → HasOwner d n s.family
+    tied_by : (d u n : ℕ) (s : Runner) (other : Option Acquired) → opens d u ≡ used_by s other → s.tie ≡ Some n → Place d u → HasOwner d n s.family
     tied_by d u n s other is tie (at_own e f now) =
         let same = same_runner own s None other (sym now ∙ is) in
         subst (λ (i : Runner). HasOwner d n i.family) same (old_owner d u n r (Some h) (was_own d u e f) (ap (λ (i : Runner). i.tie) same ∙ tie))
@@ -335,7 +335,7 @@ module _ (g : Setting) (who : Roles) (c t : ℕ) (roles : AreRoles g who) (r : R
         (t, i, own, None, parent, ap (λ k. opens k t) e ∙ own_there, inl refl, sync_now, within.1, (let le = within.2 in omega arith), refl)
     tied_by d u n s other is tie (elsewhere same not_own no_kid) = old_owner d u n s other (sym same ∙ is) tie
 
-    untied_by : (d u : ℕ) (s : Runner) (other : Option Hand) → opens d u ≡ used_by s other → s.tie ≡ None → Place d u → s.family < length g.program.roots
+    untied_by : (d u : ℕ) (s : Runner) (other : Option Acquired) → opens d u ≡ used_by s other → s.tie ≡ None → Place d u → s.family < length g.program.roots
     untied_by d u s other is tie (at_own e f now) =
         let same = same_runner own s None other (sym now ∙ is) in
         subst (λ (i : Runner). i.family < length g.program.roots) same (roles.untied d u r (Some h) (was_own d u e f) (ap (λ (i : Runner). i.tie) same ∙ tie))

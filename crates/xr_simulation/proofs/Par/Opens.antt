@@ -17,7 +17,7 @@ use Rattle.xc_meaning.specs.States.Branches.{Branch, ended, has_ended, runs, wai
 use Rattle.xc_meaning.specs.States.Worlds.{World, Action, go}
 use Rattle.xl_expr.proofs.Lists.{get_set_other, get_set_same}
 use Rattle.xl_expr.proofs.ResourceParts.{others_same}
-use Rattle.xl_par.specs.Hands.{Hand, IsAmong}
+use Rattle.xl_par.specs.Acquired.{Acquired, IsAmong}
 use Rattle.xl_ends.specs.Ends.{Sides, codes_in}
 use Rattle.xr_match.specs.Lives.{Life, Watched}
 use Rattle.xr_match.specs.Systems.{SomeIs}
@@ -73,7 +73,7 @@ abbrev pub sides_at : Option Placed → Sides
 sides_at None = []
 sides_at (Some placed) = placed.sides
 
-module _ {moment : Moment none_rests} {hand : Option Hand} (thread_at : ThreadAt moment hand)
+module _ {moment : Moment none_rests} {hand : Option Acquired} (thread_at : ThreadAt moment hand)
     (j : ℕ)
     (b : Begins moment.setting thread_at.runner j (record { core = thread_at.state; world = moment.told.state; hand = hand })) where
   open moment use {setting as g, first, image as is, roles as who, watched as w, told as x, standing as st}
@@ -138,7 +138,7 @@ module _ {moment : Moment none_rests} {hand : Option Hand} (thread_at : ThreadAt
   known_below : (k : ℕ) (branch : Branch) → slice_get x.state.branches k ≡ Some branch → k < from
   known_below k branch there = slice_get_within x.state.branches k branch there
 
-  below : (d u k : ℕ) (s : Runner) (other : Option Hand) → who d u ≡ used_by s other → IsAmong (own_branches s) k → k < from
+  below : (d u k : ℕ) (s : Runner) (other : Option Acquired) → who d u ≡ used_by s other → IsAmong (own_branches s) k → k < from
   below d u k s other at m =
       let works = works_at moment d u s other at in
       ⊎_elim
@@ -306,7 +306,7 @@ module _ {moment : Moment none_rests} {hand : Option Hand} (thread_at : ThreadAt
       free_by u lt at (roles_after.at_kid i e among now old) = let both : used_by (kid i u) None ≡ unused = sym now ∙ at in absurd (let z : ⊥ = cc in z)
       free_by u lt at (roles_after.elsewhere same not_own no_kid) = subst IsFree (sym (other_left u (λ e. not_own (refl, e)) (no_kid refl))) (used.unused u lt (sym same ∙ at))
 
-      got_by_place : (u k m : ℕ) (q : Runner) (other : Option Hand) → who' c u ≡ got_by k → who' c k ≡ used_by q other → sync_in other ≡ Some m → PlaceAt c u → PlaceAt c k → IsWaitingTied m (slice_get left.threads u)
+      got_by_place : (u k m : ℕ) (q : Runner) (other : Option Acquired) → who' c u ≡ got_by k → who' c k ≡ used_by q other → sync_in other ≡ Some m → PlaceAt c u → PlaceAt c k → IsWaitingTied m (slice_get left.threads u)
       got_by_place u k m q other at its in_other (roles_after.at_own e f now) holder = let both : used_by own None ≡ got_by k = sym now ∙ at in absurd (let z : ⊥ = cc in z)
       got_by_place u k m q other at its in_other (roles_after.at_kid i e among now old) holder = let both : used_by (kid i u) None ≡ got_by k = sym now ∙ at in absurd (let z : ⊥ = cc in z)
       got_by_place u k m q other at its in_other (roles_after.elsewhere same not_own no_kid) (roles_after.at_own e f now) =
@@ -320,7 +320,7 @@ module _ {moment : Moment none_rests} {hand : Option Hand} (thread_at : ThreadAt
       own_then m (inl outer) = inl (inr outer)
       own_then m (inr its) = let e : Some b.sync ≡ Some m = sym b.sync_is ∙ its in inl (inl (let z : m ≡ b.sync = cc in z))
 
-      taken_by : (m u : ℕ) (q : Runner) (other : Option Hand) → who c u ≡ used_by q other → Owns q other m → PlaceAt c u → (k : ℕ) × (i : Runner) × (more : Option Hand) × (who' c k ≡ used_by i more) × Owns i more m
+      taken_by : (m u : ℕ) (q : Runner) (other : Option Acquired) → who c u ≡ used_by q other → Owns q other m → PlaceAt c u → (k : ℕ) × (i : Runner) × (more : Option Acquired) × (who' c k ≡ used_by i more) × Owns i more m
       taken_by m u q other at owns (roles_after.at_own e f now) =
           let both : used_by r (Some b.hand) ≡ used_by q other = sym runs_h ∙ ap (who c) (sym f) ∙ at in
           let mine : Owns r (Some b.hand) m = subst (λ i. Owns i (Some b.hand) m) (sym (same_runner r q (Some b.hand) other both)) (subst (λ h. Owns q h m) (sym (same_hand r q (Some b.hand) other both)) owns) in
@@ -340,7 +340,7 @@ module _ {moment : Moment none_rests} {hand : Option Hand} (thread_at : ThreadAt
   reserves' = reserves_of_others g who world (reserves_behind g who x.state st.lawful st.reserves piece world all_acted) who' gives_as_before
 
   -- a runner is there still, or it is the one that made the branches
-  runner_still : (u : ℕ) (q : Runner) (other : Option Hand) → who c u ≡ used_by q other → PlaceAt c u → (r ≡ q) ⊎ (who' c u ≡ used_by q other)
+  runner_still : (u : ℕ) (q : Runner) (other : Option Acquired) → who c u ≡ used_by q other → PlaceAt c u → (r ≡ q) ⊎ (who' c u ≡ used_by q other)
   runner_still u q other at (roles_after.at_own e f now) = inl (same_runner r q (Some b.hand) other (sym runs_h ∙ ap (who c) (sym f) ∙ at))
   runner_still u q other at (roles_after.at_kid i e among now old) = let both : got_by t ≡ used_by q other = sym old ∙ at in absurd (let z : ⊥ = cc in z)
   runner_still u q other at (roles_after.elsewhere same not_own no_kid) = inr (same ∙ at)
@@ -791,7 +791,7 @@ module _ {moment : Moment none_rests} {hand : Option Hand} (thread_at : ThreadAt
     transfers_still = roles_after.opens_transfers g who c t st.roles r b.hand runs_h b.sync b.sync_is from first_items b.rest items_of sides_of none
 
     -- the runner and the new ones are in none
-    none_inside : (u : ℕ) (q : Runner) (other : Option Hand) (transfer : Transfer) → moved u ≡ true → who' c u ≡ used_by q other → q.transfer ≡ Some transfer → PlaceAt c u → ⊥
+    none_inside : (u : ℕ) (q : Runner) (other : Option Acquired) (transfer : Transfer) → moved u ≡ true → who' c u ≡ used_by q other → q.transfer ≡ Some transfer → PlaceAt c u → ⊥
     none_inside u q other transfer m at its (roles_after.at_own e f now) =
         let in_none : None ≡ Some transfer = ap (λ (i : Runner). i.transfer) (same_runner own q None other (sym now ∙ at)) ∙ its in let z : ⊥ = cc in z
     none_inside u q other transfer m at its (roles_after.at_kid i e among now old) =

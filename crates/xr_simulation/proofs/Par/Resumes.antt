@@ -16,7 +16,7 @@ use Rattle.xc_meaning.specs.Counts.KernelCounts.{kernel_bound}
 use Rattle.xc_meaning.specs.States.Branches.{Branch, ended, has_ended, runs}
 use Rattle.xl_expr.proofs.Lists.{get_set_other, get_set_same}
 use Rattle.xl_expr.proofs.ResourceParts.{others_same}
-use Rattle.xl_par.specs.Hands.{Hand, IsAmong}
+use Rattle.xl_par.specs.Acquired.{Acquired, IsAmong}
 use Rattle.xr_match.specs.Lives.{Life, Watched}
 use Rattle.xr_match.specs.Systems.{SomeIs}
 use Rattle.xr_simulation.specs.Parents.{Parent, syncs_of}
@@ -58,7 +58,7 @@ module _ {moment : Moment none_rests} {n : ℕ} (thread_at : ThreadAt moment (gi
   pub nobody_tied : some_tied a.threads n ≡ false
   nobody_tied = untied_all a.threads n (λ u thread there. by u thread there (is_tied thread n) refl)
     where
-      owner_is : (k m : ℕ) (q : Runner) (hand : Option Hand) → who c k ≡ used_by q hand → Owns q hand n → (k ≡ t) × (q ≡ r) × (hand ≡ giving_back n)
+      owner_is : (k m : ℕ) (q : Runner) (hand : Option Acquired) → who c k ≡ used_by q hand → Owns q hand n → (k ≡ t) × (q ≡ r) × (hand ≡ giving_back n)
       owner_is k m q hand runs_q own =
           let at : k ≡ t = st.roles.owner c t k n r q (giving_back n) hand runs_r runs_q owns own in
           let both : used_by q hand ≡ used_by r (giving_back n) = sym runs_q ∙ ap (who c) at ∙ runs_r in
@@ -187,14 +187,14 @@ module _ {moment : Moment none_rests} {n : ℕ} (thread_at : ThreadAt moment (gi
     }
 
     -- a runner was there before, and is there still
-    runner_before : (d u : ℕ) (q : Runner) (hand : Option Hand) → who' d u ≡ used_by q hand → (old : Option Hand) × (who d u ≡ used_by q old)
+    runner_before : (d u : ℕ) (q : Runner) (hand : Option Acquired) → who' d u ≡ used_by q hand → (old : Option Acquired) × (who d u ≡ used_by q old)
     runner_before d u q hand at =
         ⊎_elim
         (λ here. (giving_back n, ap (λ k. who k u) here.0 ∙ ap (who c) here.1 ∙ runs_r ∙ ap (λ i. used_by i (giving_back n)) (same_runner r q None hand (sym here.2 ∙ at))))
         (λ there. (hand, sym there.1 ∙ at))
         (role_cases who c t (used_by r None) d u)
 
-    runner_still : (d u : ℕ) (q : Runner) (hand : Option Hand) → who d u ≡ used_by q hand → (new : Option Hand) × (who' d u ≡ used_by q new)
+    runner_still : (d u : ℕ) (q : Runner) (hand : Option Acquired) → who d u ≡ used_by q hand → (new : Option Acquired) × (who' d u ≡ used_by q new)
     runner_still d u q hand at =
         ⊎_elim
         (λ here. (None, here.2 ∙ ap (λ i. used_by i None) (same_runner r q (giving_back n) hand (sym runs_r ∙ sym (ap (λ k. who k u) here.0 ∙ ap (who c) here.1) ∙ at))))

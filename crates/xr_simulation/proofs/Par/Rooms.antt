@@ -16,9 +16,9 @@ use Rattle.xc_meaning.proofs.Basics.{some_given, none_given}
 use Rattle.xc_disjoint.specs.Needs.{threads_on}
 use Rattle.xc_invariants.specs.Needs.{AreOnce, IsIn, TakesOn, branches_in, takes, total_of}
 use Rattle.xc_invariants.proofs.Always.{budgets_fit, budgets_suffice}
-use Rattle.xl_par.specs.Hands.{Hand, IsAmong, one_if, unused_in}
+use Rattle.xl_par.specs.Acquired.{Acquired, IsAmong, one_if, unused_in}
 use Rattle.xr_simulation.specs.Parents.{Parent, sync_before, syncs_of}
-use Rattle.xr_simulation.specs.Roles.{HandFits, IsParent, Role, Roles, empty, got_by, gives_back, opens, unused, used_by}
+use Rattle.xr_simulation.specs.Roles.{AcquiredFits, IsParent, Role, Roles, empty, got_by, gives_back, opens, unused, used_by}
 use Rattle.xr_simulation.specs.Runners.{Setting, Runner}
 use Rattle.xr_simulation.specs.ThreadViews.{SpareFor, giving_back, held_in, sync_in}
 use Rattle.xr_simulation.specs.Turns.{IsFree, IsFreeThread, IsTiedThread, IsWaitingTied}
@@ -63,7 +63,7 @@ held_of unused = []
 held_of (got_by t) = []
 held_of (used_by r hand) = held_in hand
 
-abbrev pub lacks_in : Option Hand → ℕ
+abbrev pub lacks_in : Option Acquired → ℕ
 lacks_in None = 0
 lacks_in (Some hand) = hand.lacks
 
@@ -83,7 +83,7 @@ tie_of unused = None
 tie_of (got_by t) = None
 tie_of (used_by r hand) = r.tie
 
-abbrev pub lacks_sync_in : Option Hand → ℕ
+abbrev pub lacks_sync_in : Option Acquired → ℕ
 lacks_sync_in None = 0
 lacks_sync_in (Some hand) = no_one hand.sync
 
@@ -125,7 +125,7 @@ record IsRunBy (f : ℕ → Role) (n b : ℕ) : Type 0 where
   thread : ℕ
   below : thread < n
   runner : Runner
-  hand : Option Hand
+  hand : Option Acquired
   runs : f thread ≡ used_by runner hand
   branch : b ≡ runner.branch
 
@@ -143,7 +143,7 @@ found_run zero b f i = absurd i
 found_run (suc n) b f i = found_before n b f (f 0) (branches_run n (λ k. f (suc k))) refl (found_run n b (λ k. f (suc k))) i
 
 abbrev RunOnce : (ℕ → Role) → Type 0
-RunOnce f = (t u : ℕ) (r s : Runner) (hand other : Option Hand) → f t ≡ used_by r hand → f u ≡ used_by s other → r.branch ≡ s.branch → t ≡ u
+RunOnce f = (t u : ℕ) (r s : Runner) (hand other : Option Acquired) → f t ≡ used_by r hand → f u ≡ used_by s other → r.branch ≡ s.branch → t ≡ u
 
 once_before : (n : ℕ) (f : ℕ → Role) (o : Role) → f 0 ≡ o → RunOnce f → AreOnce (branches_run n (λ i. f (suc i))) → AreOnce (branch_before o (branches_run n (λ i. f (suc i))))
 once_before n f unused e h on = on
@@ -174,7 +174,7 @@ takes_par items rest bs e =
     subst (λ k. branch_count bs ≤ takes k) (sym e) l
 
 -- its own thread, those that it has got, and those that it lacks
-hand_taken : (items : List Item) (hand : Option Hand) (budget : ℕ) → HandFits items hand → takes items ≤ budget → 1 ≤ budget → 1 + length (held_in hand) + lacks_in hand ≤ budget
+hand_taken : (items : List Item) (hand : Option Acquired) (budget : ℕ) → AcquiredFits items hand → takes items ≤ budget → 1 ≤ budget → 1 + length (held_in hand) + lacks_in hand ≤ budget
 hand_taken items hand budget (empty e) most some =
     subst (λ h. 1 + length (held_in h) + lacks_in h ≤ budget) (sym e) (omega (arith, some))
 hand_taken items hand budget (gives_back n e) most some =
@@ -184,7 +184,7 @@ hand_taken items hand budget (opens h bs rest e is count two none) most some =
     subst (λ k. 1 + length (held_in k) + lacks_in k ≤ budget) (sym e) (omega (arith, t, count, most))
 
 -- one that opens a `par` takes two threads at least
-hand_two : (items : List Item) (hand : Option Hand) (budget : ℕ) → HandFits items hand → takes items ≤ budget → 1 ≤ budget →
+hand_two : (items : List Item) (hand : Option Acquired) (budget : ℕ) → AcquiredFits items hand → takes items ≤ budget → 1 ≤ budget →
     ((n : ℕ) → hand ≡ giving_back n → 2 ≤ budget) → 1 + one_some (sync_in hand) + lacks_sync_in hand ≤ budget
 hand_two items hand budget (empty e) most some back = subst (λ h. 1 + one_some (sync_in h) + lacks_sync_in h ≤ budget) (sym e) (omega (arith, some))
 hand_two items hand budget (gives_back n e) most some back =
@@ -200,19 +200,19 @@ hand_two items hand budget (opens h bs rest e is count two none) most some back 
     one_or_other (Some n) = refl
 
 -- where it has no synchroniser yet it has no threads, and lacks some
-hand_lacks : (items : List Item) (hand : Hand) → HandFits items (Some hand) → hand.sync ≡ None → (hand.threads ≡ []) × (1 ≤ hand.lacks)
+hand_lacks : (items : List Item) (hand : Acquired) → AcquiredFits items (Some hand) → hand.sync ≡ None → (hand.threads ≡ []) × (1 ≤ hand.lacks)
 hand_lacks items hand (empty e) none = absurd (none_given (sym e))
 hand_lacks items hand (gives_back n e) none =
-    let z : None ≡ Some n = sym none ∙ ap (λ (h : Hand). h.sync) (some_given e) in absurd (none_given z)
+    let z : None ≡ Some n = sym none ∙ ap (λ (h : Acquired). h.sync) (some_given e) in absurd (none_given z)
 hand_lacks items hand (opens h bs rest e is count two got) none =
     let same : hand ≡ h = some_given e in
-    let nothing : h.threads ≡ [] = got (ap (λ (k : Hand). k.sync) (sym same) ∙ none) in
+    let nothing : h.threads ≡ [] = got (ap (λ (k : Acquired). k.sync) (sym same) ∙ none) in
     let l = ap length nothing in
-    let lacks : hand.lacks ≡ h.lacks = ap (λ (k : Hand). k.lacks) same in
-    (ap (λ (k : Hand). k.threads) same ∙ nothing, omega (arith, l, count, two, lacks))
+    let lacks : hand.lacks ≡ h.lacks = ap (λ (k : Acquired). k.lacks) same in
+    (ap (λ (k : Acquired). k.threads) same ∙ nothing, omega (arith, l, count, two, lacks))
 
 -- a thread that was got has a synchroniser
-hand_has_sync : (items : List Item) (hand : Option Hand) (u : ℕ) → HandFits items hand → IsAmong (held_in hand) u → (n : ℕ) × (sync_in hand ≡ Some n)
+hand_has_sync : (items : List Item) (hand : Option Acquired) (u : ℕ) → AcquiredFits items hand → IsAmong (held_in hand) u → (n : ℕ) × (sync_in hand ≡ Some n)
 hand_has_sync items hand u (empty e) i = absurd (subst (λ h. IsAmong (held_in h) u) e i)
 hand_has_sync items hand u (gives_back n e) i = absurd (subst (λ h. IsAmong (held_in h) u) e i)
 hand_has_sync items hand u (opens h bs rest e is count two got) i = by h.sync refl
@@ -268,7 +268,7 @@ module _ (g : Setting) (who : Roles) (x : World) (c : ℕ) (a : CoreState) (crew
   abbrev role : ℕ → Role
   role t = who c t
 
-  below_eight : (t : ℕ) (r : Runner) (hand : Option Hand) → role t ≡ used_by r hand → t < 8
+  below_eight : (t : ℕ) (r : Runner) (hand : Option Acquired) → role t ≡ used_by r hand → t < 8
   below_eight t r hand e = crew.roles.few c t (λ q. let z : used_by r hand ≡ unused = sym e ∙ q in absurd cc)
 
   -- What all have in reserve.
@@ -295,7 +295,7 @@ module _ (g : Setting) (who : Roles) (x : World) (c : ℕ) (a : CoreState) (crew
       omega (arith, fit, total, needed)
 
   -- what one has covers what it takes
-  runner_takes : (t : ℕ) (r : Runner) (hand : Option Hand) → role t ≡ used_by r hand → 1 + length (held_in hand) + lacks_in hand ≤ budget r.branch
+  runner_takes : (t : ℕ) (r : Runner) (hand : Option Acquired) → role t ≡ used_by r hand → 1 + length (held_in hand) + lacks_in hand ≤ budget r.branch
   runner_takes t r hand e =
       let w = crew.works t r hand e in
       hand_taken w.branch.items hand (budget r.branch) w.in_hand
@@ -303,15 +303,15 @@ module _ (g : Setting) (who : Roles) (x : World) (c : ℕ) (a : CoreState) (crew
       (crew.reserves.budgeted.some r.branch w.branch w.known)
 
   -- and its synchroniser
-  runner_syncs : (t : ℕ) (r : Runner) (hand : Option Hand) → role t ≡ used_by r hand → 1 + one_some (sync_in hand) + lacks_sync_in hand ≤ budget r.branch
+  runner_syncs : (t : ℕ) (r : Runner) (hand : Option Acquired) → role t ≡ used_by r hand → 1 + one_some (sync_in hand) + lacks_sync_in hand ≤ budget r.branch
   runner_syncs t r hand e =
       let w = crew.works t r hand e in
       hand_two w.branch.items hand (budget r.branch) w.in_hand
       (budgets_suffice g.program x budget crew.reserves.budgeted r.branch w.branch w.known w.goes)
       (crew.reserves.budgeted.some r.branch w.branch w.known)
-      (λ n q. crew.reserves.gives_back c t n r (subst (λ (h : Option Hand). role t ≡ used_by r h) q e))
+      (λ n q. crew.reserves.gives_back c t n r (subst (λ (h : Option Acquired). role t ≡ used_by r h) q e))
 
-  by_roles : (F : Role → ℕ) → ((r : Runner) (hand : Option Hand) (t : ℕ) → role t ≡ used_by r hand → F (used_by r hand) ≤ budget r.branch) → F unused ≡ 0 → ((t : ℕ) → F (got_by t) ≡ 0) → (t : ℕ) → F (role t) ≤ reserve_of budget (role t)
+  by_roles : (F : Role → ℕ) → ((r : Runner) (hand : Option Acquired) (t : ℕ) → role t ≡ used_by r hand → F (used_by r hand) ≤ budget r.branch) → F unused ≡ 0 → ((t : ℕ) → F (got_by t) ≡ 0) → (t : ℕ) → F (role t) ≤ reserve_of budget (role t)
   by_roles F used none got t = by (role t) refl
     where
       by : (o : Role) → role t ≡ o → F o ≤ reserve_of budget o
@@ -384,7 +384,7 @@ module _ (g : Setting) (who : Roles) (x : World) (c : ℕ) (a : CoreState) (crew
       let many = unused_many a.threads (λ t. is_free (role t)) free_unused in
       subst (λ n. sum n (λ t. is_free (role t)) ≤ unused_in a.threads) crew.used.threads many
 
-  lacks_there : (t : ℕ) (r : Runner) (hand : Option Hand) → role t ≡ used_by r hand → lacks_in hand ≤ unused_in a.threads
+  lacks_there : (t : ℕ) (r : Runner) (hand : Option Acquired) → role t ≡ used_by r hand → lacks_in hand ≤ unused_in a.threads
   lacks_there t r hand e =
       let here : lacks_of (role t) ≡ lacks_in hand = ap lacks_of e in
       let one = sum_one 8 t (λ k. lacks_of (role k)) (below_eight t r hand e) in
@@ -403,7 +403,7 @@ module _ (g : Setting) (who : Roles) (x : World) (c : ℕ) (a : CoreState) (crew
       let o = one_of_three (role i) in
       omega (arith, z, n, o)
 
-  pub first_unused_inside : (t u : ℕ) (r : Runner) (hand : Hand) → who c t ≡ used_by r (Some hand) → 1 ≤ hand.lacks →
+  pub first_unused_inside : (t u : ℕ) (r : Runner) (hand : Acquired) → who c t ≡ used_by r (Some hand) → 1 ≤ hand.lacks →
       first_free (threads_taken a.threads) 0 ≡ Some u → u < threads_on g.program c
   first_unused_inside t u r hand e lacks first =
       let behind = subst (λ n. u ≤ 0 + sum n (λ i. is_got (role i) + is_used (role i))) crew.used.threads
@@ -418,7 +418,7 @@ module _ (g : Setting) (who : Roles) (x : World) (c : ℕ) (a : CoreState) (crew
   -- Synchronisers.
 
   -- a thread is tied to each one of a parent's
-  tied_there : (t n : ℕ) (r : Runner) (hand : Option Hand) → role t ≡ used_by r hand → IsAmong (syncs_of r.parents) n → 1 ≤ sum 8 (λ u. one_if (is_num (tie_of (role u)) n))
+  tied_there : (t n : ℕ) (r : Runner) (hand : Option Acquired) → role t ≡ used_by r hand → IsAmong (syncs_of r.parents) n → 1 ≤ sum 8 (λ u. one_if (is_num (tie_of (role u)) n))
   tied_there t n r hand e i =
       let w = crew.works t r hand e in
       let p = sync_parent r.parents n i in
@@ -444,7 +444,7 @@ module _ (g : Setting) (who : Roles) (x : World) (c : ℕ) (a : CoreState) (crew
       one_or_other (Some n) = refl
 
   -- some thread isn't tied
-  untied_one : (t : ℕ) (r : Runner) (hand : Option Hand) → role t ≡ used_by r hand → 1 ≤ sum 8 (λ u. is_untied_one (role u))
+  untied_one : (t : ℕ) (r : Runner) (hand : Option Acquired) → role t ≡ used_by r hand → 1 ≤ sum 8 (λ u. is_untied_one (role u))
   untied_one t r hand e =
       let u = some_untied g x crew.lawful who crew.roles c crew.works t r hand e in
       let one : is_untied_one (role u.thread) ≡ 1 = ap is_untied_one u.runs ∙ ap no_one u.untied in
@@ -458,7 +458,7 @@ module _ (g : Setting) (who : Roles) (x : World) (c : ℕ) (a : CoreState) (crew
       omega (arith, s, e)
 
   -- one that opens a `par` has at most six in its parents
-  pub depth_small : (t : ℕ) (r : Runner) (hand : Hand) → who c t ≡ used_by r (Some hand) → (1 ≤ length hand.threads) ⊎ (1 ≤ hand.lacks) → length (syncs_of r.parents) ≤ 6
+  pub depth_small : (t : ℕ) (r : Runner) (hand : Acquired) → who c t ≡ used_by r (Some hand) → (1 ≤ length hand.threads) ⊎ (1 ≤ hand.lacks) → length (syncs_of r.parents) ≤ 6
   depth_small t r hand e some =
       let ns = syncs_of r.parents in
       let least = total_least (λ n. sum 8 (λ u. one_if (is_num (tie_of (role u)) n))) ns (λ n i. tied_there t n r (Some hand) e i) in
@@ -514,7 +514,7 @@ module _ (g : Setting) (who : Roles) (x : World) (c : ℕ) (a : CoreState) (crew
       omega (arith, few, swap, each, s)
 
   -- and a synchroniser is free for one that has none yet
-  sync_there : (t : ℕ) (r : Runner) (hand : Hand) → role t ≡ used_by r (Some hand) → hand.sync ≡ None → (n : ℕ) × (slice_get a.syncs n ≡ Some false)
+  sync_there : (t : ℕ) (r : Runner) (hand : Acquired) → role t ≡ used_by r (Some hand) → hand.sync ≡ None → (n : ℕ) × (slice_get a.syncs n ≡ Some false)
   sync_there t r hand e none =
       let each = sum_most 8 (λ u. is_used (role u) + one_some (sync_of (role u)) + lacks_sync (role u)) (λ u. reserve_of budget (role u))
       (λ u lt. by_roles (λ o. is_used o + one_some (sync_of o) + lacks_sync o) (λ q other k f. runner_syncs k q other f) refl (λ k. refl) u) in
@@ -597,7 +597,7 @@ module _ (g : Setting) (who : Roles) (x : World) (c : ℕ) (a : CoreState) (crew
           crew.used.owned o.0 m o.2 o.3 o.5 (inl (parent_sync o.2.parents m o.4 o.6 o.7)))
 
   -- What a runner lacks is there, whatever is in its hand.
-  pub spare_for : (t : ℕ) (r : Runner) (hand : Option Hand) → who c t ≡ used_by r hand → SpareFor hand a
+  pub spare_for : (t : ℕ) (r : Runner) (hand : Option Acquired) → who c t ≡ used_by r hand → SpareFor hand a
   spare_for t r None e = tt
   spare_for t r (Some hand) e = record {
     threads = lacks_there t r (Some hand) e;

@@ -16,7 +16,7 @@ use Rattle.xc_meaning.specs.Settings.Setting.{becomes}
 use Rattle.xc_meaning.specs.States.Branches.{Branch, Mode, has_ended, runs, waits, ended, erred}
 use Rattle.xc_meaning.specs.States.Items.{Item}
 use Rattle.xc_meaning.specs.States.Worlds.{World, Action, clock, go, take, default, only_if}
-use Rattle.xl_par.specs.Hands.{Hand, IsAmong}
+use Rattle.xl_par.specs.Acquired.{Acquired, IsAmong}
 use Rattle.xr_match.specs.Implements.{IsQuietMachine}
 use Rattle.xr_match.specs.Systems.{SomeIs}
 use Rattle.xr_simulation.specs.Parents.{Parent, branches_of}
@@ -101,7 +101,7 @@ module _ (moment : Moment none_rests)
     (quiet : IsQuietMachine moment.setting.image moment.setting.stimulus moment.watched.machine) where
   open moment use {setting as g, image as is, roles as who, watched as w, told as x, standing as st}
 
-  module _ {hand : Option Hand} (thread_at : ThreadAt moment hand) where
+  module _ {hand : Option Acquired} (thread_at : ThreadAt moment hand) where
     open thread_at use {core as c, thread as t, state as a, at_core as at_c, runner as r, runs as runs_r}
 
     abbrev now : ThreadView

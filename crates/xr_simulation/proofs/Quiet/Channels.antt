@@ -24,7 +24,7 @@ use Rattle.xc_meaning.specs.Uses.{by_items}
 use Rattle.xl_chan.specs.Protocols as protocol
 use Rattle.xl_chan.specs.Protocols.{Acts, sends}
 use Rattle.xl_image.specs.Images.{pair_of}
-use Rattle.xl_par.specs.Hands.{Hand}
+use Rattle.xl_par.specs.Acquired.{Acquired}
 use Rattle.xr_match.specs.Implements.{IsQuietMachine}
 use Rattle.xr_simulation.specs.Runners.{IsChannel, Runner, Setting, end_place, home}
 use Rattle.xr_simulation.specs.ThreadViews.{ThreadView, running}
@@ -104,7 +104,7 @@ module _ (moment : Moment none_rests)
   ghosts = st.wired.ghosts
 
   -- A branch that runs, and its thread.
-  module _ {hand : Option Hand} (thread_at : ThreadAt moment hand) where
+  module _ {hand : Option Acquired} (thread_at : ThreadAt moment hand) where
     open thread_at use {core as c, thread as t, state as a, at_core as at_c, runner as r, runs as runs_r}
 
     abbrev view : ThreadView

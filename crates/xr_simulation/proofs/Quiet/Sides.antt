@@ -17,7 +17,7 @@ use Rattle.xc_meaning.specs.States.Items.{Item}
 use Rattle.xl_chan.specs.Protocols as protocol
 use Rattle.xl_chan.specs.Protocols.{Act, Acts, sends, takes_word}
 use Rattle.xl_image.specs.Images.{pair_of}
-use Rattle.xl_par.specs.Hands.{Hand}
+use Rattle.xl_par.specs.Acquired.{Acquired}
 use Rattle.xr_match.specs.Implements.{IsQuietMachine}
 use Rattle.xr_simulation.specs.Roles.{used_by}
 use Rattle.xr_simulation.specs.Runners.{Runner, end_place, home}
@@ -91,7 +91,7 @@ module _ (moment : Moment none_rests)
   ghosts = st.wired.ghosts
 
   -- A thread is at a step on the end of a side of a channel: that waits.
-  module _ {hand : Option Hand} (thread_at : ThreadAt moment hand)
+  module _ {hand : Option Acquired} (thread_at : ThreadAt moment hand)
       (channel : ℕ) (side : Side) (line : ℕ) (is_line : IsLine g.program line channel)
       (on_core : AreSidesOn g.program channel thread_at.core)
       (pos : Pos) (pc : ℕ) (regs : Regs)
@@ -158,7 +158,7 @@ module _ (moment : Moment none_rests)
     pub stuck : IsAwaiting phase ⊎ (Goes w.machine.cores boxes ghosts line (pair_of g.program channel) side → ⊥)
 
   -- the side of a thread that is inside a transfer
-  module _ (d u line : ℕ) (r : Runner) (hand : Option Hand) (runs_r : who d u ≡ used_by r hand) (transfer : Transfer) (its : r.transfer ≡ Some transfer) (is_line : IsLine g.program line transfer.channel) (a : CoreState) (at_d : slice_get w.machine.cores d ≡ Some a) where
+  module _ (d u line : ℕ) (r : Runner) (hand : Option Acquired) (runs_r : who d u ≡ used_by r hand) (transfer : Transfer) (its : r.transfer ≡ Some transfer) (is_line : IsLine g.program line transfer.channel) (a : CoreState) (at_d : slice_get w.machine.cores d ≡ Some a) where
     -- its channel is on its core
     on_core : AreSidesOn g.program transfer.channel d
     on_core = (st.wired.listed d u transfer.channel transfer.side (record { runner = r; hand = hand; runs = runs_r; transfer = transfer; is = its; channel_is = refl; side_is = refl })).2

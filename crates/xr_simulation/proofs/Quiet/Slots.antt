@@ -11,7 +11,7 @@ use Rattle.xs_instr.specs.Did.{Did, Given, Idle, Made, Paused, Traps, is_step, m
 use Rattle.xs_instr.specs.Ends.{Control, Gone, NotYet, Taken, Word, check, check_by, check_in, first_control, ins_control, ins_word, outs, outs_by, take_word, word_in, word_unless}
 use Rattle.xs_instr.specs.Machine.{Machine, home_of, step_at, stepped}
 use Rattle.xs_instr.specs.Slot.{slot}
-use Rattle.xl_par.specs.Hands.{Hand}
+use Rattle.xl_par.specs.Acquired.{Acquired}
 use Rattle.xr_match.specs.Implements.{IsQuietMachine}
 use Rattle.xr_simulation.specs.Runners.{home}
 use Rattle.xr_simulation.proofs.Relation.Moments.{Moment, ThreadAt}
@@ -64,7 +64,7 @@ word_waits h gone (Word v) e = cc
 word_waits h gone (Control c) e = cc
 word_waits h gone NotYet e = refl
 
-module _ {may_rest : (core thread : ℕ) → Bool} {moment : Moment may_rest} {hand : Option Hand} (thread_at : ThreadAt moment hand)
+module _ {may_rest : (core thread : ℕ) → Bool} {moment : Moment may_rest} {hand : Option Acquired} (thread_at : ThreadAt moment hand)
     (quiet : IsQuietMachine moment.setting.image moment.setting.stimulus moment.watched.machine) where
   open moment use {setting as g, roles as who, watched as w, told as x, standing as st}
   open thread_at use {core as c, thread as t, state as a, at_core as at_c, runner as r, runs as runs_r}

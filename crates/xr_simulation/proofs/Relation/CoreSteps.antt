@@ -12,7 +12,7 @@ use Rattle.xc_kernel.specs.Eval.{words_of}
 use Rattle.xc_meaning.specs.Runs.{acts_all}
 use Rattle.xc_meaning.specs.States.Branches.{Branch, has_ended}
 use Rattle.xc_meaning.specs.States.Worlds.{World, Action}
-use Rattle.xl_par.specs.Hands.{Hand, IsAmong}
+use Rattle.xl_par.specs.Acquired.{Acquired, IsAmong}
 use Rattle.xr_match.specs.Implements.{clock_of}
 use Rattle.xr_match.specs.Lives.{Life, Watched}
 use Rattle.xr_match.specs.Meanings.{of_kernel}
@@ -75,13 +75,13 @@ pub record IsNextStanding
   pub far_steps : (d t : ℕ) → d ≢ c → (w'.lives d t).steps ≡ (w.lives d t).steps
   pub stand : (t : ℕ) → moved t ≡ true →
       Stands g (may_rest' c t) b y (w'.lives c t) (told_by g.program g.stimulus x piece y).actions (who' c t)
-  pub rely : (t : ℕ) (s : Runner) (hand : Option Hand) → moved t ≡ false → who c t ≡ used_by s hand →
+  pub rely : (t : ℕ) (s : Runner) (hand : Option Acquired) → moved t ≡ false → who c t ≡ used_by s hand →
       Rely g s (record { core = a; world = x.state; hand = hand }) (record { core = b; world = y; hand = hand })
-  pub far_rely : (d t : ℕ) (e : CoreState) (s : Runner) (hand : Option Hand) → d ≢ c → slice_get w.machine.cores d ≡ Some e → who d t ≡ used_by s hand →
+  pub far_rely : (d t : ℕ) (e : CoreState) (s : Runner) (hand : Option Acquired) → d ≢ c → slice_get w.machine.cores d ≡ Some e → who d t ≡ used_by s hand →
       Rely g s (record { core = e; world = x.state; hand = hand }) (record { core = e; world = y; hand = hand })
   pub links : w'.machine.links ≡ no_links
   pub wired : AreWired g who' w'.machine y
-  pub alone : (u : ℕ) (s : Runner) (hand : Option Hand) (transfer : Transfer) → moved u ≡ true → who' c u ≡ used_by s hand → s.transfer ≡ Some transfer →
+  pub alone : (u : ℕ) (s : Runner) (hand : Option Acquired) (transfer : Transfer) → moved u ≡ true → who' c u ≡ used_by s hand → s.transfer ≡ Some transfer →
       HasAlone y.branches transfer.channel transfer.side s.branch
   pub loose : 1 ≤ threads_on g.program c → AreLoose g who' c b y
   pub far_loose : (d : ℕ) (e : CoreState) → d ≢ c → slice_get w.machine.cores d ≡ Some e → AreLoose g who d e x.state → AreLoose g who' d e y
@@ -94,7 +94,7 @@ pub record IsNextStanding
 -- how a thread stands that has the role that it had, where what its runner stands on is kept
 role_still : (g : Setting) (rests rests' : Bool) (a b : CoreState) (x y : World) (life life' : Life) (actions more : ℕ → ℕ)
     (role : Role) → (rests ≡ true → rests' ≡ true) →
-    ((s : Runner) (hand : Option Hand) → role ≡ used_by s hand →
+    ((s : Runner) (hand : Option Acquired) → role ≡ used_by s hand →
     Rely g s (record { core = a; world = x; hand = hand }) (record { core = b; world = y; hand = hand })) → life'.steps ≡ life.steps →
     ((f : ℕ) → actions f ≤ more f) → Stands g rests a x life actions role → Stands g rests' b y life' more role
 role_still g rests rests' a b x y life life' actions more unused may k same le h = h
@@ -114,7 +114,7 @@ used_still who who' d e same h = record {
 
 -- Where a core has other ends, what threads stand on is as it was.
 
-kept_ends : (g : Setting) (s : Runner) (z : ThreadView) (e f : CoreState) (y : World) (hand : Option Hand) → IsSameButEnds e f →
+kept_ends : (g : Setting) (s : Runner) (z : ThreadView) (e f : CoreState) (y : World) (hand : Option Acquired) → IsSameButEnds e f →
     Rely g s z (record { core = e; world = y; hand = hand }) → Rely g s z (record { core = f; world = y; hand = hand })
 kept_ends g s z e f y hand same k = subst (λ b. Rely g s z (record { core = b; world = y; hand = hand })) (sym same.is) (record {
   thread = k.thread;
@@ -132,7 +132,7 @@ kept_ends g s z e f y hand same k = subst (λ b. Rely g s z (record { core = b; 
   spare = spare_ends z.hand k.spare;
 })
   where
-    spare_ends : (hand : Option Hand) → SpareFor hand e → SpareFor hand (record e { ends = f.ends })
+    spare_ends : (hand : Option Acquired) → SpareFor hand e → SpareFor hand (record e { ends = f.ends })
     spare_ends None h = tt
     spare_ends (Some hand) h = record {
       threads = h.threads;
@@ -156,7 +156,7 @@ loose_ends g who d e f y same h = subst (λ b. AreLoose g who d b y) (sym same.i
 
 -- a thread is inside a transfer on a channel of the program's
 pub channel_known : (g : Setting) (who : Roles) (m : Machine) (x : World) → AreWired g who m x →
-    (d u : ℕ) (s : Runner) (hand : Option Hand) (transfer : Transfer) → who d u ≡ used_by s hand → s.transfer ≡ Some transfer →
+    (d u : ℕ) (s : Runner) (hand : Option Acquired) (transfer : Transfer) → who d u ≡ used_by s hand → s.transfer ≡ Some transfer →
     transfer.channel < length g.program.channels
 channel_known g who m x wired d u s hand transfer is its =
     let k = wired.listed d u transfer.channel transfer.side (record { runner = s; hand = hand; runs = is; transfer = transfer; is = its; channel_is = refl; side_is = refl }) in
@@ -256,7 +256,7 @@ moves g may_rest may_rest' who who' w w' x c a b moved piece y st step next =
     here t = by_moved t (moved t) refl
 
     -- a branch whose thread is inside a transfer, and which is what it was, has its side for itself still
-    alone_kept : (d u : ℕ) (e : CoreState) (s : Runner) (hand : Option Hand) (transfer : Transfer) → slice_get w.machine.cores d ≡ Some e → who d u ≡ used_by s hand → s.transfer ≡ Some transfer →
+    alone_kept : (d u : ℕ) (e : CoreState) (s : Runner) (hand : Option Acquired) (transfer : Transfer) → slice_get w.machine.cores d ≡ Some e → who d u ≡ used_by s hand → s.transfer ≡ Some transfer →
         slice_get y.branches s.branch ≡ slice_get x.state.branches s.branch → HasAlone y.branches transfer.channel transfer.side s.branch
     alone_kept d u e s hand transfer at is its same =
         let works = works_of g s (may_rest d u) hand e x.state (w.lives d u) x.actions (subst (Stands g (may_rest d u) e x.state (w.lives d u) x.actions) is (st.threads d u e at)) in
@@ -269,13 +269,13 @@ moves g may_rest may_rest' who who' w w' x c a b moved piece y st step next =
         none_some : ◌≡◌ {A = Option Transfer} None (Some transfer) → ⊥
         none_some f = cc
 
-    alone_here : (u : ℕ) (s : Runner) (hand : Option Hand) (transfer : Transfer) → who' c u ≡ used_by s hand → s.transfer ≡ Some transfer → (m : Bool) → moved u ≡ m → HasAlone y.branches transfer.channel transfer.side s.branch
+    alone_here : (u : ℕ) (s : Runner) (hand : Option Acquired) (transfer : Transfer) → who' c u ≡ used_by s hand → s.transfer ≡ Some transfer → (m : Bool) → moved u ≡ m → HasAlone y.branches transfer.channel transfer.side s.branch
     alone_here u s hand transfer is its true m = next.alone u s hand transfer m is its
     alone_here u s hand transfer is its false m =
         let old = sym (next.same_role u m) ∙ is in
         alone_kept c u a s hand transfer step.was old its (next.rely u s hand m old).branch
 
-    alone_there : (d u : ℕ) (s : Runner) (hand : Option Hand) (transfer : Transfer) → d ≢ c → who d u ≡ used_by s hand → s.transfer ≡ Some transfer → HasAlone y.branches transfer.channel transfer.side s.branch
+    alone_there : (d u : ℕ) (s : Runner) (hand : Option Acquired) (transfer : Transfer) → d ≢ c → who d u ≡ used_by s hand → s.transfer ≡ Some transfer → HasAlone y.branches transfer.channel transfer.side s.branch
     alone_there d u s hand transfer ne is its =
         let lt = st.roles.there d u s hand is in
         let four = st.cores in
@@ -286,7 +286,7 @@ moves g may_rest may_rest' who who' w w' x c a b moved piece y st step next =
 -- to synchronisers of its own; takes synchronisers that are free and gives back its own ones; and changes words, ports and variables within its
 -- footprint, and its own branches. Others may be made.
 pub record Effect
-    (g : Setting) (who : Roles) (c t : ℕ) (r : Runner) (hand : Option Hand) (moved : (thread : ℕ) → Bool) (a b : CoreState) (x y : World) : Type 0 where
+    (g : Setting) (who : Roles) (c t : ℕ) (r : Runner) (hand : Option Acquired) (moved : (thread : ℕ) → Bool) (a b : CoreState) (x y : World) : Type 0 where
   pub clock : b.clock ≡ a.clock
   pub sizes : sizes_of b ≡ sizes_of a
   pub threads : (u : ℕ) → moved u ≡ false → slice_get b.threads u ≡ slice_get a.threads u
@@ -322,44 +322,44 @@ runner_in r unused = r
 runner_in r (got_by t) = r
 runner_in r (used_by s hand) = s
 
-abbrev hand_in : Role → Option Hand
+abbrev hand_in : Role → Option Acquired
 hand_in unused = None
 hand_in (got_by t) = None
 hand_in (used_by s hand) = hand
 
-pub same_runner : (r s : Runner) (hand other : Option Hand) → used_by r hand ≡ used_by s other → r ≡ s
+pub same_runner : (r s : Runner) (hand other : Option Acquired) → used_by r hand ≡ used_by s other → r ≡ s
 same_runner r s hand other e = ap (runner_in r) e
 
-pub same_hand : (r s : Runner) (hand other : Option Hand) → used_by r hand ≡ used_by s other → hand ≡ other
+pub same_hand : (r s : Runner) (hand other : Option Acquired) → used_by r hand ≡ used_by s other → hand ≡ other
 same_hand r s hand other e = ap hand_in e
 
 module _ {may_rest : (core thread : ℕ) → Bool} (moment : Moment may_rest) where
   open moment use {setting as g, first, image as is, roles as who, watched as w, told as x, standing as st}
 
   -- each core that has a runner is there
-  pub core_of : (d u : ℕ) (s : Runner) (other : Option Hand) → who d u ≡ used_by s other → (e : CoreState) × (slice_get w.machine.cores d ≡ Some e)
+  pub core_of : (d u : ℕ) (s : Runner) (other : Option Acquired) → who d u ≡ used_by s other → (e : CoreState) × (slice_get w.machine.cores d ≡ Some e)
   core_of d u s other runs_s =
       let lt = st.roles.there d u s other runs_s in
       let four = st.cores in
       core_at w.machine.cores d (omega arith)
 
   -- how a runner's thread stands
-  pub stands_at : (d u : ℕ) (e : CoreState) (s : Runner) (other : Option Hand) → slice_get w.machine.cores d ≡ Some e → who d u ≡ used_by s other → Stands g (may_rest d u) e x.state (w.lives d u) x.actions (used_by s other)
+  pub stands_at : (d u : ℕ) (e : CoreState) (s : Runner) (other : Option Acquired) → slice_get w.machine.cores d ≡ Some e → who d u ≡ used_by s other → Stands g (may_rest d u) e x.state (w.lives d u) x.actions (used_by s other)
   stands_at d u e s other at runs_s = subst (Stands g (may_rest d u) e x.state (w.lives d u) x.actions) runs_s (st.threads d u e at)
 
-  pub works_at : (d u : ℕ) (s : Runner) (other : Option Hand) → who d u ≡ used_by s other → Works g x.state s other
+  pub works_at : (d u : ℕ) (s : Runner) (other : Option Acquired) → who d u ≡ used_by s other → Works g x.state s other
   works_at d u s other runs_s =
       let e = core_of d u s other runs_s in
       works_of g s (may_rest d u) other e.0 x.state (w.lives d u) x.actions (stands_at d u e.0 s other e.1 runs_s)
 
-  pub laid_at : (d u : ℕ) (s : Runner) (other : Option Hand) → who d u ≡ used_by s other → IsLaidOut g s
+  pub laid_at : (d u : ℕ) (s : Runner) (other : Option Acquired) → who d u ≡ used_by s other → IsLaidOut g s
   laid_at d u s other runs_s = laid_of_role g first who is st.roles d u s other runs_s x.state (works_at d u s other runs_s)
 
   pub crew_at : (d : ℕ) (e : CoreState) → slice_get w.machine.cores d ≡ Some e → Crew g who x.state d e
   crew_at d e at = crew_of g first who may_rest w x d e is st at
 
   -- nothing has happened yet
-  pub kept_now : (d u : ℕ) (e : CoreState) (s : Runner) (other : Option Hand) → slice_get w.machine.cores d ≡ Some e →
+  pub kept_now : (d u : ℕ) (e : CoreState) (s : Runner) (other : Option Acquired) → slice_get w.machine.cores d ≡ Some e →
       who d u ≡ used_by s other → Rely g s (record { core = e; world = x.state; hand = other })
       (record { core = e; world = x.state; hand = other })
   kept_now d u e s other at runs_s = record {
@@ -378,26 +378,26 @@ module _ {may_rest : (core thread : ℕ) → Bool} (moment : Moment may_rest) wh
     spare = spare_for g who x.state d e (crew_at d e at) u s other runs_s;
   }
 
-  module _ {hand : Option Hand} (thread_at : ThreadAt moment hand) (moved : (thread : ℕ) → Bool) (b : CoreState) (y : World)
+  module _ {hand : Option Acquired} (thread_at : ThreadAt moment hand) (moved : (thread : ℕ) → Bool) (b : CoreState) (y : World)
       (effect : Effect g who thread_at.core thread_at.thread thread_at.runner hand moved thread_at.state b x.state y) where
     open thread_at use {core as c, thread as t, state as a, at_core as at_c, runner as r, runs as runs_r}
 
     -- a branch of another runner's, which runs or waits, is there still
-    pub own_still : (d u : ℕ) (s : Runner) (other : Option Hand) → ((d ≡ c) × (u ≡ t) → ⊥) → who d u ≡ used_by s other → (n : ℕ) (branch : Branch) → IsAmong (own_branches s) n → slice_get x.state.branches n ≡ Some branch → slice_get y.branches n ≡ slice_get x.state.branches n
+    pub own_still : (d u : ℕ) (s : Runner) (other : Option Acquired) → ((d ≡ c) × (u ≡ t) → ⊥) → who d u ≡ used_by s other → (n : ℕ) (branch : Branch) → IsAmong (own_branches s) n → slice_get x.state.branches n ≡ Some branch → slice_get y.branches n ≡ slice_get x.state.branches n
     own_still d u s other ne runs_s n branch m known =
         effect.branches n branch (λ k. ne (st.roles.branches c t d u n r s hand other runs_r runs_s k m)) known ∙ sym known
 
-    pub parents_left : (d u : ℕ) (s : Runner) (other : Option Hand) → ((d ≡ c) × (u ≡ t) → ⊥) → who d u ≡ used_by s other → (n : ℕ) → IsAmong (branches_of s.parents) n → slice_get y.branches n ≡ slice_get x.state.branches n
+    pub parents_left : (d u : ℕ) (s : Runner) (other : Option Acquired) → ((d ≡ c) × (u ≡ t) → ⊥) → who d u ≡ used_by s other → (n : ℕ) → IsAmong (branches_of s.parents) n → slice_get y.branches n ≡ slice_get x.state.branches n
     parents_left d u s other ne runs_s n m =
         let there = parent_there g x.state s.core s.family s.branch s.parents n (works_at d u s other runs_s).parents m in
         own_still d u s other ne runs_s n there.0 (inr m) there.1
 
-    store_left : (d u : ℕ) (s : Runner) (other : Option Hand) → ((d ≡ c) × (u ≡ t) → ⊥) → who d u ≡ used_by s other → (v : ℕ) → s.footprint.uses v ≡ true → words_of y.store v ≡ words_of x.state.store v
+    store_left : (d u : ℕ) (s : Runner) (other : Option Acquired) → ((d ≡ c) × (u ≡ t) → ⊥) → who d u ≡ used_by s other → (v : ℕ) → s.footprint.uses v ≡ true → words_of y.store v ≡ words_of x.state.store v
     store_left d u s other ne runs_s v uses =
         effect.store v (own_variables g who x.state st.lawful st.roles c t d u r s hand other runs_r runs_s ne (works_at c t r hand runs_r) (works_at d u s other runs_s) v uses)
 
     -- a thread that the event changes is tied to nothing of another runner's
-    not_tied : (u : ℕ) (s : Runner) (other : Option Hand) → u ≢ t → who c u ≡ used_by s other → (n v : ℕ) (thread : Thread) → sync_in other ≡ Some n → slice_get b.threads v ≡ Some thread → is_tied thread n ≡ true → moved v ≡ true → ⊥
+    not_tied : (u : ℕ) (s : Runner) (other : Option Acquired) → u ≢ t → who c u ≡ used_by s other → (n v : ℕ) (thread : Thread) → sync_in other ≡ Some n → slice_get b.threads v ≡ Some thread → is_tied thread n ≡ true → moved v ≡ true → ⊥
     not_tied u s other ne runs_s n v thread sync there tied m =
         ⊎_elim
         (λ (owns : Owns r hand n). ne (st.roles.owner c t u n r s hand other runs_r runs_s owns (inr sync)))
@@ -413,7 +413,7 @@ module _ {may_rest : (core thread : ℕ) → Bool} (moment : Moment may_rest) wh
         (effect.ties v n thread m there tied)
 
     -- what another runner of the core stands on is kept, where what it lacks for a `par` is there
-    pub kept_others : (u : ℕ) (s : Runner) (other : Option Hand) → u ≢ t → moved u ≡ false → who c u ≡ used_by s other → SpareFor other b →
+    pub kept_others : (u : ℕ) (s : Runner) (other : Option Acquired) → u ≢ t → moved u ≡ false → who c u ≡ used_by s other → SpareFor other b →
         Rely g s (record { core = a; world = x.state; hand = other }) (record { core = b; world = y; hand = other })
     kept_others u s other ne still runs_s spare =
         let s_core = st.roles.core c u s other runs_s in
@@ -446,7 +446,7 @@ module _ {may_rest : (core thread : ℕ) → Bool} (moment : Moment may_rest) wh
         not_changed n v thread sync there tied false m = sym (effect.threads v m) ∙ there
 
     -- and that of a runner of another core
-    pub far_others : (d u : ℕ) (e : CoreState) (s : Runner) (other : Option Hand) → d ≢ c → slice_get w.machine.cores d ≡ Some e → who d u ≡ used_by s other →
+    pub far_others : (d u : ℕ) (e : CoreState) (s : Runner) (other : Option Acquired) → d ≢ c → slice_get w.machine.cores d ≡ Some e → who d u ≡ used_by s other →
         Rely g s (record { core = e; world = x.state; hand = other }) (record { core = e; world = y; hand = other })
     far_others d u e s other ne at_d runs_s =
         let s_core = st.roles.core d u s other runs_s in

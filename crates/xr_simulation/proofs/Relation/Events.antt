@@ -12,7 +12,7 @@ use Rattle.xc_meaning.specs.Runs.{acts_all}
 use Rattle.xc_meaning.specs.States.Branches.{Branch, has_ended}
 use Rattle.xc_meaning.specs.States.Worlds.{World, Action}
 use Rattle.xl_expr.proofs.Lists.{get_set_same, get_set_other}
-use Rattle.xl_par.specs.Hands.{Hand}
+use Rattle.xl_par.specs.Acquired.{Acquired}
 use Rattle.xr_match.specs.Implements.{clock_of}
 use Rattle.xr_match.specs.Lives.{Life, Watched, watched_after}
 use Rattle.xr_match.specs.Meanings.{of_kernel}
@@ -52,7 +52,7 @@ pub record IsAnswered
       Stands g (may_rest' c u) b y (w'.lives c u) (told_by g.program g.stimulus x piece y).actions (who' c u)
   pub links : w'.machine.links ≡ no_links
   pub wired : AreWired g who' w'.machine y
-  pub alone : (u : ℕ) (s : Runner) (hand : Option Hand) (transfer : Transfer) → moved u ≡ true → who' c u ≡ used_by s hand → s.transfer ≡ Some transfer →
+  pub alone : (u : ℕ) (s : Runner) (hand : Option Acquired) (transfer : Transfer) → moved u ≡ true → who' c u ≡ used_by s hand → s.transfer ≡ Some transfer →
       HasAlone y.branches transfer.channel transfer.side s.branch
   pub loose : 1 ≤ threads_on g.program c → AreLoose g who' c b y
   pub roots : b.roots ≡ living_on c y.branches
@@ -61,7 +61,7 @@ pub record IsAnswered
   pub run : (n : ℕ) (branch : Branch) → slice_get y.branches n ≡ Some branch → has_ended branch.mode ≡ false → IsRun who' n
   pub made : (n : ℕ) (branch : Branch) → slice_get y.branches n ≡ Some branch → has_ended branch.mode ≡ false → IsMade (length g.program.roots) y.branches n
 
-module _ {may_rest : (core thread : ℕ) → Bool} {moment : Moment may_rest} {hand : Option Hand} (thread_at : ThreadAt moment hand)
+module _ {may_rest : (core thread : ℕ) → Bool} {moment : Moment may_rest} {hand : Option Acquired} (thread_at : ThreadAt moment hand)
     (moved : (thread : ℕ) → Bool) (own : moved thread_at.thread ≡ true) (b : CoreState) (y : World)
     (effect : Effect moment.setting moment.roles thread_at.core thread_at.thread thread_at.runner hand moved thread_at.state b
     moment.told.state y) where
@@ -73,7 +73,7 @@ module _ {may_rest : (core thread : ℕ) → Bool} {moment : Moment may_rest} {h
   not_own u m e = let both : true ≡ false = sym own ∙ ap moved (sym e) ∙ m in cc
 
   -- a runner that isn't moved works as before
-  pub works_behind : (u : ℕ) (s : Runner) (other : Option Hand) → moved u ≡ false → who c u ≡ used_by s other → Works g y s other
+  pub works_behind : (u : ℕ) (s : Runner) (other : Option Acquired) → moved u ≡ false → who c u ≡ used_by s other → Works g y s other
   works_behind u s other m runs_s =
       let works = works_at moment c u s other runs_s in
       let ne : (c ≡ c) × (u ≡ t) → ⊥ = λ h. not_own u m h.1 in
@@ -95,7 +95,7 @@ module _ {may_rest : (core thread : ℕ) → Bool} {moment : Moment may_rest} {h
       }
 
   -- and its thread is what it was
-  pub thread_behind : (u : ℕ) (s : Runner) (other : Option Hand) → moved u ≡ false → who c u ≡ used_by s other → HasOwnThread b s
+  pub thread_behind : (u : ℕ) (s : Runner) (other : Option Acquired) → moved u ≡ false → who c u ≡ used_by s other → HasOwnThread b s
   thread_behind u s other m runs_s =
       let h = own_thread_of g s (may_rest c u) other a x.state (w.lives c u) x.actions (stands_at moment c u a s other at_c runs_s) in
       record {
@@ -106,13 +106,13 @@ module _ {may_rest : (core thread : ℕ) → Bool} {moment : Moment may_rest} {h
       }
 
   module _ (may_rest' : (core thread : ℕ) → Bool) (who' : Roles) (w' : Watched) (piece : List Action) (step : HasStepped w w' c a b) (answer : IsAnswered g may_rest may_rest' who who' w w' x c b moved piece y) where
-    works_by : (u : ℕ) (s : Runner) (other : Option Hand) → who' c u ≡ used_by s other → (m : Bool) → moved u ≡ m → Works g y s other
+    works_by : (u : ℕ) (s : Runner) (other : Option Acquired) → who' c u ≡ used_by s other → (m : Bool) → moved u ≡ m → Works g y s other
     works_by u s other runs_s true m =
         let actions = (told_by g.program g.stimulus x piece y).actions in
         works_of g s (may_rest' c u) other b y (w'.lives c u) actions (subst (Stands g (may_rest' c u) b y (w'.lives c u) actions) runs_s (answer.stand u m))
     works_by u s other runs_s false m = works_behind u s other m (sym (answer.same_role u m) ∙ runs_s)
 
-    thread_by : (u : ℕ) (s : Runner) (other : Option Hand) → who' c u ≡ used_by s other → (m : Bool) → moved u ≡ m → HasOwnThread b s
+    thread_by : (u : ℕ) (s : Runner) (other : Option Acquired) → who' c u ≡ used_by s other → (m : Bool) → moved u ≡ m → HasOwnThread b s
     thread_by u s other runs_s true m =
         let actions = (told_by g.program g.stimulus x piece y).actions in
         own_thread_of g s (may_rest' c u) other b y (w'.lives c u) actions (subst (Stands g (may_rest' c u) b y (w'.lives c u) actions) runs_s (answer.stand u m))

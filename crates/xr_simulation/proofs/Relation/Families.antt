@@ -5,7 +5,7 @@ use Rattle.xc_meaning.specs.States.Branches.{Branch, waits}
 use Rattle.xc_meaning.specs.States.Worlds.{World}
 use Rattle.xc_invariants.specs.Lawful.{Lawful}
 use Rattle.xc_invariants.specs.Tree.{IsChild, IsPresent, root, child}
-use Rattle.xl_par.specs.Hands.{Hand}
+use Rattle.xl_par.specs.Acquired.{Acquired}
 use Rattle.xr_simulation.specs.Parents.{Parent}
 use Rattle.xr_simulation.specs.Roles.{AreRoles, IsParent, ParentsWait, ParentWaits, Roles, outermost, used_by}
 use Rattle.xr_simulation.specs.Runners.{Setting, Runner}
@@ -79,17 +79,17 @@ module _ (g : Setting) (x : World) (lawful : Lawful g.program x) where
     parent_present (q ∷ qs) first p h (inr i) here = parent_present qs q.branch p h.1 i here
 
   -- The runners of a core.
-  module _ (who : Roles) (roles : AreRoles g who) (c : ℕ) (works : (t : ℕ) (r : Runner) (hand : Option Hand) → who c t ≡ used_by r hand → Works g x r hand) where
+  module _ (who : Roles) (roles : AreRoles g who) (c : ℕ) (works : (t : ℕ) (r : Runner) (hand : Option Acquired) → who c t ≡ used_by r hand → Works g x r hand) where
     -- whose thread a tied one's is: one of a smaller family waits for it
     pub record IsTiedTo (s : Runner) : Type 0 where
       pub thread : ℕ
       pub runner : Runner
-      pub hand : Option Hand
+      pub hand : Option Acquired
       pub runs : who c thread ≡ used_by runner hand
       pub less : runner.family < s.family
       pub present : Present runner.family → Present s.family
 
-    pub tied_to : (u n : ℕ) (s : Runner) (other : Option Hand) → who c u ≡ used_by s other → s.tie ≡ Some n → IsTiedTo s
+    pub tied_to : (u n : ℕ) (s : Runner) (other : Option Acquired) → who c u ≡ used_by s other → s.tie ≡ Some n → IsTiedTo s
     tied_to u n s other e tie =
         let h = roles.tied c u n s other e tie in
         let t = h.0 in
@@ -119,7 +119,7 @@ module _ (g : Setting) (x : World) (lawful : Lawful g.program x) where
         }
 
     -- the branch with which a runner's thread began is present
-    family_by : (fuel t : ℕ) (r : Runner) (hand : Option Hand) → who c t ≡ used_by r hand → r.family < fuel → Present r.family
+    family_by : (fuel t : ℕ) (r : Runner) (hand : Option Acquired) → who c t ≡ used_by r hand → r.family < fuel → Present r.family
     family_by zero t r hand e lt = absurd (let z : ⊥ = omega (arith, lt) in z)
     family_by (suc fuel) t r hand e lt = by r.tie refl (λ (o : IsTiedTo r). family_by fuel o.thread o.runner o.hand o.runs (let l = o.less in omega (arith, l, lt)))
       where
@@ -128,7 +128,7 @@ module _ (g : Setting) (x : World) (lawful : Lawful g.program x) where
         by (Some n) q next = let o = tied_to t n r hand e q in o.present (next o)
 
     -- so the one that it runs is
-    pub runner_present : (t : ℕ) (r : Runner) (hand : Option Hand) → who c t ≡ used_by r hand → Present r.branch
+    pub runner_present : (t : ℕ) (r : Runner) (hand : Option Acquired) → who c t ≡ used_by r hand → Present r.branch
     runner_present t r hand e =
         let here = family_by (suc r.family) t r hand e (omega arith) in
         first_present r.core r.family r.parents r.branch (works t r hand e).parents (subst Present (sym (roles.started c t r hand e)) here)
@@ -137,11 +137,11 @@ module _ (g : Setting) (x : World) (lawful : Lawful g.program x) where
     pub record SomeUntied : Type 0 where
       pub thread : ℕ
       pub runner : Runner
-      pub hand : Option Hand
+      pub hand : Option Acquired
       pub runs : who c thread ≡ used_by runner hand
       pub untied : runner.tie ≡ None
 
-    untied_by : (fuel t : ℕ) (r : Runner) (hand : Option Hand) → who c t ≡ used_by r hand → r.family < fuel → SomeUntied
+    untied_by : (fuel t : ℕ) (r : Runner) (hand : Option Acquired) → who c t ≡ used_by r hand → r.family < fuel → SomeUntied
     untied_by zero t r hand e lt = absurd (let z : ⊥ = omega (arith, lt) in z)
     untied_by (suc fuel) t r hand e lt = by r.tie refl (λ (o : IsTiedTo r). untied_by fuel o.thread o.runner o.hand o.runs (let l = o.less in omega (arith, l, lt)))
       where
@@ -149,5 +149,5 @@ module _ (g : Setting) (x : World) (lawful : Lawful g.program x) where
         by None q next = record { thread = t; runner = r; hand = hand; runs = e; untied = q }
         by (Some n) q next = next (tied_to t n r hand e q)
 
-    pub some_untied : (t : ℕ) (r : Runner) (hand : Option Hand) → who c t ≡ used_by r hand → SomeUntied
+    pub some_untied : (t : ℕ) (r : Runner) (hand : Option Acquired) → who c t ≡ used_by r hand → SomeUntied
     some_untied t r hand e = untied_by (suc r.family) t r hand e (omega arith)

@@ -14,7 +14,7 @@ use Rattle.xc_meaning.specs.States.Branches.{Branch, Mode, runs, waits, ended, e
 use Rattle.xc_meaning.specs.States.Items.{Item}
 use Rattle.xc_meaning.specs.States.Worlds.{World, Action}
 use Rattle.xl_expr.proofs.Lists.{get_set_same, get_set_other}
-use Rattle.xl_par.specs.Hands.{Hand, IsAmong}
+use Rattle.xl_par.specs.Acquired.{Acquired, IsAmong}
 use Rattle.xr_match.specs.Lives.{Life, Watched}
 use Rattle.xr_match.specs.Meanings.{of_kernel}
 use Rattle.xr_match.specs.Sources.{Told}
@@ -141,7 +141,7 @@ module _ (g : Setting) (r : Runner) where
   parents_still x y core family (p ∷ ps) first same h = (parent_still x y core family first p (same p.branch (inl refl)) h.0, parents_still x y core family ps p.branch (λ b m. same b (inr m)) h.1)
 
   -- What a runner stands on is kept, so it stands as before. Its life is as long, its family may have done more, and it may be at rest.
-  pub stand_still : (rests rests' : Bool) (hand : Option Hand) (a b : CoreState) (x y : World) (life life' : Life) (actions more : ℕ → ℕ)
+  pub stand_still : (rests rests' : Bool) (hand : Option Acquired) (a b : CoreState) (x y : World) (life life' : Life) (actions more : ℕ → ℕ)
       (branch : Branch) → (rests ≡ true → rests' ≡ true) →
       Rely g r (record { core = a; world = x; hand = hand }) (record { core = b; world = y; hand = hand }) → life'.steps ≡ life.steps →
       ((f : ℕ) → actions f ≤ more f) → Stand g r rests hand a x life actions branch → Stand g r rests' hand b y life' more branch
@@ -173,7 +173,7 @@ module _ (g : Setting) (r : Runner) where
       more_one m n l = omega arith
 
   -- the same of the branch that the runner's thread runs, wherever that stands
-  pub runner_still : (rests rests' : Bool) (hand : Option Hand) (a b : CoreState) (x y : World) (life life' : Life)
+  pub runner_still : (rests rests' : Bool) (hand : Option Acquired) (a b : CoreState) (x y : World) (life life' : Life)
       (actions more : ℕ → ℕ) → (rests ≡ true → rests' ≡ true) →
       Rely g r (record { core = a; world = x; hand = hand }) (record { core = b; world = y; hand = hand }) → life'.steps ≡ life.steps →
       ((f : ℕ) → actions f ≤ more f) → Stands g rests a x life actions (used_by r hand) → Stands g rests' b y life' more (used_by r hand)

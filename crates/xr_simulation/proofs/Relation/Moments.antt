@@ -3,7 +3,7 @@ use Rattle.std.proofs.Common.{◌≡◌, ℕ, Option, Some}
 use Rattle.std.specs.Prelude.{Bool, slice_get}
 use Rattle.xs_instr.specs.declared.state.CoreState.{CoreState}
 use Rattle.xc_meaning.specs.States.Branches.{Branch}
-use Rattle.xl_par.specs.Hands.{Hand}
+use Rattle.xl_par.specs.Acquired.{Acquired}
 use Rattle.xr_match.specs.Lives.{Watched}
 use Rattle.xr_match.specs.Meanings.{of_kernel}
 use Rattle.xr_match.specs.Sources.{Told}
@@ -23,7 +23,7 @@ pub record Moment (rests : (core thread : ℕ) → Bool) : Type 0 where
   pub standing : Standing setting rests roles watched told
 
 -- a thread of the machine then, and its core, whose role it is to run a branch with this in hand
-pub record ThreadAt {rests : (core thread : ℕ) → Bool} (moment : Moment rests) (hand : Option Hand) : Type 0 where
+pub record ThreadAt {rests : (core thread : ℕ) → Bool} (moment : Moment rests) (hand : Option Acquired) : Type 0 where
   pub core : ℕ
   pub thread : ℕ
   pub state : CoreState
@@ -32,7 +32,7 @@ pub record ThreadAt {rests : (core thread : ℕ) → Bool} (moment : Moment rest
   pub runs : moment.roles core thread ≡ used_by runner hand
 
 -- the branch that it runs, and how the thread stands to it
-pub record BranchAt {rests : (core thread : ℕ) → Bool} {moment : Moment rests} {hand : Option Hand}
+pub record BranchAt {rests : (core thread : ℕ) → Bool} {moment : Moment rests} {hand : Option Acquired}
     (thread_at : ThreadAt moment hand) : Type 0 where
   pub branch : Branch
   pub known : slice_get moment.told.state.branches thread_at.runner.branch ≡ Some branch
@@ -46,11 +46,11 @@ abbrev pub moment_of : {rests : (core thread : ℕ) → Bool} (g : Setting) (fir
 moment_of g first is who w x st = record { setting = g; first = first; image = is; roles = who; watched = w; told = x; standing = st }
 
 abbrev pub thread_of : {rests : (core thread : ℕ) → Bool} (moment : Moment rests) (c t : ℕ) (a : CoreState) →
-    slice_get moment.watched.machine.cores c ≡ Some a → (r : Runner) (hand : Option Hand) → moment.roles c t ≡ used_by r hand →
+    slice_get moment.watched.machine.cores c ≡ Some a → (r : Runner) (hand : Option Acquired) → moment.roles c t ≡ used_by r hand →
     ThreadAt moment hand
 thread_of moment c t a at_c r hand runs_r = record { core = c; thread = t; state = a; at_core = at_c; runner = r; runs = runs_r }
 
-abbrev pub branch_of : {rests : (core thread : ℕ) → Bool} {moment : Moment rests} {hand : Option Hand} (thread_at : ThreadAt moment hand)
+abbrev pub branch_of : {rests : (core thread : ℕ) → Bool} {moment : Moment rests} {hand : Option Acquired} (thread_at : ThreadAt moment hand)
     (branch : Branch) →
     slice_get moment.told.state.branches thread_at.runner.branch ≡ Some branch →
     Stand moment.setting thread_at.runner (rests thread_at.core thread_at.thread) hand thread_at.state moment.told.state

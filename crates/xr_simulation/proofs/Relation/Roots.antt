@@ -9,7 +9,7 @@ use Rattle.xc_disjoint.specs.Needs.{threads_of_root, threads_on}
 use Rattle.xc_disjoint.specs.Threads as threads
 use Rattle.xc_invariants.specs.Needs.{needed_on}
 use Rattle.xc_invariants.proofs.Needs.{statements_least}
-use Rattle.xl_par.specs.Hands.{Hand}
+use Rattle.xl_par.specs.Acquired.{Acquired}
 use Rattle.xl_image.specs.Images.{core_of_root, root_sides, roots_on, thread_of}
 use Rattle.xl_plan.specs.Layout.{temporary_of}
 use Rattle.xl_plan.proofs.Lists.{some_given, none_given}
@@ -173,7 +173,7 @@ runner_in unused = None
 runner_in (got_by t) = None
 runner_in (used_by r hand) = Some r
 
-pub same_runner : (r s : Runner) (hand other : Option Hand) → used_by r hand ≡ used_by s other → r ≡ s
+pub same_runner : (r s : Runner) (hand other : Option Acquired) → used_by r hand ≡ used_by s other → r ≡ s
 same_runner r s hand other e = some_given (ap runner_in e)
 
 pub is_runner : (K : kernel.Kernel) (core thread : ℕ) (r : Runner) → roles K core thread ≡ used_by r None → IsRunner K core thread r

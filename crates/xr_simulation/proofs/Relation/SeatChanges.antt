@@ -1,7 +1,7 @@
 -- A thread leaves its place, or gets another thread.
 use Rattle.std.proofs.Common.{◌≡◌, ℕ, ◌<◌, ◌≢◌, ◌⊎◌, inl, inr, [], Option, Some, None, sym, ap, ◌∙◌, subst, ⊎_elim}
 use Rattle.xc_disjoint.specs.Needs.{threads_on}
-use Rattle.xl_par.specs.Hands.{Hand, IsAmong, with_thread_got}
+use Rattle.xl_par.specs.Acquired.{Acquired, IsAmong, with_thread_got}
 use Rattle.xr_simulation.specs.Roles.{AreRoles, IsOnce, Role, Roles, got_by, own_branches, unused, used_by}
 use Rattle.xr_simulation.specs.Runners.{Setting, Runner}
 use Rattle.xr_simulation.specs.ThreadViews.{held_in, sync_in}
@@ -21,7 +21,7 @@ module _ (g : Setting) (who : Roles) (c t : ℕ) (roles : AreRoles g who) (r : R
   there_still : (d u : ℕ) (role : Role) → who d u ≡ role → role ≢ used_by r None → leaves d u ≡ role
   there_still d u role is ne = ⊎_elim (λ here. absurd (ne (sym is ∙ ap (λ k. who k u) here.0 ∙ ap (who c) here.1 ∙ was))) (λ other. other.1 ∙ is) (role_cases who c t unused d u)
 
-  runs_not_unused : (s : Runner) (other : Option Hand) → used_by s other ≢ unused
+  runs_not_unused : (s : Runner) (other : Option Acquired) → used_by s other ≢ unused
   runs_not_unused s other e = cc
 
   got_not_unused : (v : ℕ) → got_by v ≢ unused
@@ -30,7 +30,7 @@ module _ (g : Setting) (who : Roles) (c t : ℕ) (roles : AreRoles g who) (r : R
   got_not_run : (v : ℕ) → got_by v ≢ used_by r None
   got_not_run v e = cc
 
-  before : (d u : ℕ) (s : Runner) (other : Option Hand) → leaves d u ≡ used_by s other → Seat who c t d u s other
+  before : (d u : ℕ) (s : Runner) (other : Option Acquired) → leaves d u ≡ used_by s other → Seat who c t d u s other
   before d u s other is = record {
     runner = s;
     hand = other;
@@ -40,7 +40,7 @@ module _ (g : Setting) (who : Roles) (c t : ℕ) (roles : AreRoles g who) (r : R
     branches = λ b m. inl m;
   }
 
-  behind : (d u : ℕ) (s : Runner) (other : Option Hand) → who d u ≡ used_by s other → ((s.tie ≡ None) × (s.parents ≡ [])) ⊎ SeatStill leaves d u s
+  behind : (d u : ℕ) (s : Runner) (other : Option Acquired) → who d u ≡ used_by s other → ((s.tie ≡ None) × (s.parents ≡ [])) ⊎ SeatStill leaves d u s
   behind d u s other is =
       ⊎_elim
       (λ here.
@@ -50,7 +50,7 @@ module _ (g : Setting) (who : Roles) (c t : ℕ) (roles : AreRoles g who) (r : R
       (role_cases who c t unused d u)
 
   -- one that holds something is another one
-  holder_still : (d u v : ℕ) (s : Runner) (other : Option Hand) → who d u ≡ used_by s other → IsAmong (held_in other) v → leaves d u ≡ used_by s other
+  holder_still : (d u v : ℕ) (s : Runner) (other : Option Acquired) → who d u ≡ used_by s other → IsAmong (held_in other) v → leaves d u ≡ used_by s other
   holder_still d u v s other is m = there_still d u (used_by s other) is (λ e. subst (λ h. IsAmong (held_in h) v) (same_hand s r other None e) m)
 
   in_use_before : (d u : ℕ) → leaves d u ≢ unused → who d u ≢ unused
@@ -75,8 +75,8 @@ pub got_same : (m n : ℕ) → got_by m ≡ got_by n → m ≡ n
 got_same m n e = ap got_in e
 
 -- a runner gets a thread that was unused
-module _ (g : Setting) (who : Roles) (c t v : ℕ) (roles : AreRoles g who) (r : Runner) (hand : Hand) (was : who c t ≡ used_by r (Some hand)) (free : who c v ≡ unused) (few : v < 8) (inside : v < threads_on g.program c) where
-  abbrev holds_more : Option Hand
+module _ (g : Setting) (who : Roles) (c t v : ℕ) (roles : AreRoles g who) (r : Runner) (hand : Acquired) (was : who c t ≡ used_by r (Some hand)) (free : who c v ≡ unused) (few : v < 8) (inside : v < threads_on g.program c) where
+  abbrev holds_more : Option Acquired
   holds_more = Some (with_thread_got hand v)
 
   abbrev pub gets : Roles
@@ -106,7 +106,7 @@ module _ (g : Setting) (who : Roles) (c t v : ℕ) (roles : AreRoles g who) (r :
   own_now = role_other (with_role who c t (used_by r holds_more)) c v (got_by t) t (λ e. not_own (sym e)) ∙ role_here who c t (used_by r holds_more)
 
   -- each runner was there before
-  seat_before : (d u : ℕ) (s : Runner) (other : Option Hand) → gets d u ≡ used_by s other → Place d u → Seat who c t d u s other
+  seat_before : (d u : ℕ) (s : Runner) (other : Option Acquired) → gets d u ≡ used_by s other → Place d u → Seat who c t d u s other
   seat_before d u s other is (own dc ut now old_is) = record {
     runner = r;
     hand = Some hand;
@@ -125,7 +125,7 @@ module _ (g : Setting) (who : Roles) (c t v : ℕ) (roles : AreRoles g who) (r :
     branches = λ b m. inl m;
   }
 
-  seat_behind : (d u : ℕ) (s : Runner) (other : Option Hand) → who d u ≡ used_by s other → Place d u → ((s.tie ≡ None) × (s.parents ≡ [])) ⊎ SeatStill gets d u s
+  seat_behind : (d u : ℕ) (s : Runner) (other : Option Acquired) → who d u ≡ used_by s other → Place d u → ((s.tie ≡ None) × (s.parents ≡ [])) ⊎ SeatStill gets d u s
   seat_behind d u s other is (own dc ut now old_is) =
       inr (record { runner = r; hand = holds_more; is = now; seated = subst (IsSeated r) (same_runner r s (Some hand) other (sym old_is ∙ is)) (seated_itself r) })
   seat_behind d u s other is (new dc uv now old_is) = let both : unused ≡ used_by s other = sym old_is ∙ is in cc
@@ -138,12 +138,12 @@ module _ (g : Setting) (who : Roles) (c t v : ℕ) (roles : AreRoles g who) (r :
   got_still d u k is (old same) = same ∙ is
 
   -- who holds threads holds them still
-  holder : (d k u : ℕ) (s : Runner) (other : Option Hand) → who d k ≡ used_by s other → IsAmong (held_in other) u → Place d k → (i : Runner) × (more : Option Hand) × (gets d k ≡ used_by i more) × IsAmong (held_in more) u
+  holder : (d k u : ℕ) (s : Runner) (other : Option Acquired) → who d k ≡ used_by s other → IsAmong (held_in other) u → Place d k → (i : Runner) × (more : Option Acquired) × (gets d k ≡ used_by i more) × IsAmong (held_in more) u
   holder d k u s other is m (own dc kt now old_is) = (r, holds_more, now, inr (subst (λ h. IsAmong (held_in h) u) (sym (same_hand r s (Some hand) other (sym old_is ∙ is))) m))
   holder d k u s other is m (new dc kv now old_is) = let both : unused ≡ used_by s other = sym old_is ∙ is in cc
   holder d k u s other is m (old same) = (s, other, same ∙ is, m)
 
-  got_now : (d u k : ℕ) → gets d u ≡ got_by k → Place d u → (i : Runner) × (more : Option Hand) × (gets d k ≡ used_by i more) × IsAmong (held_in more) u
+  got_now : (d u k : ℕ) → gets d u ≡ got_by k → Place d u → (i : Runner) × (more : Option Acquired) × (gets d k ≡ used_by i more) × IsAmong (held_in more) u
   got_now d u k is (own dc ut now old_is) = let both : used_by r holds_more ≡ got_by k = sym now ∙ is in cc
   got_now d u k is (new dc uv now old_is) =
       let both : got_by t ≡ got_by k = sym now ∙ is in
@@ -151,7 +151,7 @@ module _ (g : Setting) (who : Roles) (c t v : ℕ) (roles : AreRoles g who) (r :
       (r, holds_more, ap (λ i. gets i k) dc ∙ ap (gets c) (sym at) ∙ own_now, inl uv)
   got_now d u k is (old same) = let h = roles.got d u k (sym same ∙ is) in holder d k u h.0 h.1 h.2 h.3 (place d k)
 
-  held_now : (d k u : ℕ) (s : Runner) (other : Option Hand) → gets d k ≡ used_by s other → IsAmong (held_in other) u → Place d k → gets d u ≡ got_by k
+  held_now : (d k u : ℕ) (s : Runner) (other : Option Acquired) → gets d k ≡ used_by s other → IsAmong (held_in other) u → Place d k → gets d u ≡ got_by k
   held_now d k u s other is m (own dc kt now old_is) =
       ⊎_elim
       (λ (e : u ≡ v). ap (λ i. gets i u) dc ∙ ap (gets c) e ∙ role_here (with_role who c t (used_by r holds_more)) c v (got_by t) ∙ ap got_by (sym kt))
@@ -160,7 +160,7 @@ module _ (g : Setting) (who : Roles) (c t v : ℕ) (roles : AreRoles g who) (r :
   held_now d k u s other is m (new dc kv now old_is) = let both : got_by t ≡ used_by s other = sym now ∙ is in cc
   held_now d k u s other is m (old same) = got_still d u k (roles.held d k u s other (sym same ∙ is) m) (place d u)
 
-  once_now : (d k : ℕ) (s : Runner) (other : Option Hand) → gets d k ≡ used_by s other → Place d k → IsOnce (held_in other)
+  once_now : (d k : ℕ) (s : Runner) (other : Option Acquired) → gets d k ≡ used_by s other → Place d k → IsOnce (held_in other)
   once_now d k s other is (own dc kt now old_is) =
       subst (λ h. IsOnce (held_in h)) (same_hand r s holds_more other (sym now ∙ is))
       ((λ m. let both : unused ≡ got_by t = sym free ∙ roles.held c t v r (Some hand) was m in cc), roles.held_once c t r (Some hand) was)

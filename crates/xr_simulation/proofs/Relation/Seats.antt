@@ -3,7 +3,7 @@ use Rattle.std.proofs.Common.{◌≡◌, ℕ, ◌<◌, ◌≢◌, ◌⊎◌, inl
 use Rattle.std.specs.Prelude.{Bool, true, false, ◌&&◌, nat_eq}
 use Rattle.std.proofs.lemmas.Bool.{cases_eq, ne_eqb}
 use Rattle.xc_disjoint.specs.Needs.{threads_on}
-use Rattle.xl_par.specs.Hands.{Hand, IsAmong}
+use Rattle.xl_par.specs.Acquired.{Acquired, IsAmong}
 use Rattle.xr_simulation.specs.Parents.{Parent, syncs_of}
 use Rattle.xr_simulation.specs.Roles.{AreRoles, IsOnce, IsParent, Role, Roles, got_by, outermost, own_branches, unused, used_by}
 use Rattle.xr_simulation.specs.Runners.{Setting, Runner}
@@ -42,10 +42,10 @@ role_cases who c t role d u =
 
 -- nobody's branch, and nobody's synchroniser on a core
 abbrev pub IsNobodys : Roles → (branch : ℕ) → Type 0
-IsNobodys who b = (d u : ℕ) (s : Runner) (other : Option Hand) → who d u ≡ used_by s other → IsAmong (own_branches s) b → ⊥
+IsNobodys who b = (d u : ℕ) (s : Runner) (other : Option Acquired) → who d u ≡ used_by s other → IsAmong (own_branches s) b → ⊥
 
 abbrev pub IsUnowned : Roles → (core sync : ℕ) → Type 0
-IsUnowned who c n = (u : ℕ) (s : Runner) (other : Option Hand) → who c u ≡ used_by s other → Owns s other n → ⊥
+IsUnowned who c n = (u : ℕ) (s : Runner) (other : Option Acquired) → who c u ≡ used_by s other → Owns s other n → ⊥
 
 -- a runner in the place of another: the same thread in the same life, whose branches are those of the same branch
 pub record IsSeated (s r : Runner) : Type 0 where
@@ -75,9 +75,9 @@ seated_itself r = record {
 }
 
 -- a runner in the place of one that stood there; what it has beside that is new
-pub record Seat (who : Roles) (c t d u : ℕ) (s : Runner) (other : Option Hand) : Type 0 where
+pub record Seat (who : Roles) (c t d u : ℕ) (s : Runner) (other : Option Acquired) : Type 0 where
   pub runner : Runner
-  pub hand : Option Hand
+  pub hand : Option Acquired
   pub was : who d u ≡ used_by runner hand
   pub seated : IsSeated s runner
   pub sync : (n : ℕ) → sync_in other ≡ Some n → (sync_in hand ≡ Some n) ⊎ (((d ≡ c) × (u ≡ t)) × IsUnowned who d n)
@@ -86,28 +86,28 @@ pub record Seat (who : Roles) (c t d u : ℕ) (s : Runner) (other : Option Hand)
 -- and one in whose place there is one still
 pub record SeatStill (who' : Roles) (d u : ℕ) (r : Runner) : Type 0 where
   pub runner : Runner
-  pub hand : Option Hand
+  pub hand : Option Acquired
   pub is : who' d u ≡ used_by runner hand
   pub seated : IsSeated runner r
 
 -- Thread t of core c alone may have branches and a synchroniser that are new. A runner that leaves its place was tied to nothing, and nobody
 -- waited on its thread.
 pub record AreSeated (who who' : Roles) (c t : ℕ) : Type 0 where
-  pub before : (d u : ℕ) (s : Runner) (other : Option Hand) → who' d u ≡ used_by s other → Seat who c t d u s other
-  pub behind : (d u : ℕ) (r : Runner) (hand : Option Hand) → who d u ≡ used_by r hand → ((r.tie ≡ None) × (r.parents ≡ [])) ⊎ SeatStill who' d u r
+  pub before : (d u : ℕ) (s : Runner) (other : Option Acquired) → who' d u ≡ used_by s other → Seat who c t d u s other
+  pub behind : (d u : ℕ) (r : Runner) (hand : Option Acquired) → who d u ≡ used_by r hand → ((r.tie ≡ None) × (r.parents ≡ [])) ⊎ SeatStill who' d u r
 
 -- who got which threads goes with who holds them, and all are within the core's need
 pub record AreHeld (g : Setting) (who : Roles) : Type 0 where
   pub few : (c t : ℕ) → who c t ≢ unused → t < 8
   pub inside : (c t : ℕ) → who c t ≢ unused → t < threads_on g.program c
-  pub got : (c u t : ℕ) → who c u ≡ got_by t → (r : Runner) × (hand : Option Hand) × (who c t ≡ used_by r hand) × IsAmong (held_in hand) u
-  pub held : (c t u : ℕ) (r : Runner) (hand : Option Hand) → who c t ≡ used_by r hand → IsAmong (held_in hand) u → who c u ≡ got_by t
-  pub held_once : (c t : ℕ) (r : Runner) (hand : Option Hand) → who c t ≡ used_by r hand → IsOnce (held_in hand)
+  pub got : (c u t : ℕ) → who c u ≡ got_by t → (r : Runner) × (hand : Option Acquired) × (who c t ≡ used_by r hand) × IsAmong (held_in hand) u
+  pub held : (c t u : ℕ) (r : Runner) (hand : Option Acquired) → who c t ≡ used_by r hand → IsAmong (held_in hand) u → who c u ≡ got_by t
+  pub held_once : (c t : ℕ) (r : Runner) (hand : Option Acquired) → who c t ≡ used_by r hand → IsOnce (held_in hand)
 
 module _ (g : Setting) (who who' : Roles) (c t : ℕ) (roles : AreRoles g who) (seated : AreSeated who who' c t) where
   -- what a runner owns it owned, or nobody did
-  owned_before : (d u n : ℕ) (s : Runner) (other : Option Hand) → who' d u ≡ used_by s other → Owns s other n →
-      ((r : Runner) × (hand : Option Hand) × (who d u ≡ used_by r hand) × Owns r hand n) ⊎ (((d ≡ c) × (u ≡ t)) × IsUnowned who d n)
+  owned_before : (d u n : ℕ) (s : Runner) (other : Option Acquired) → who' d u ≡ used_by s other → Owns s other n →
+      ((r : Runner) × (hand : Option Acquired) × (who d u ≡ used_by r hand) × Owns r hand n) ⊎ (((d ≡ c) × (u ≡ t)) × IsUnowned who d n)
   owned_before d u n s other is (inl m) =
       let q = seated.before d u s other is in
       inl (q.runner, q.hand, q.was, inl (subst (λ l. IsAmong l n) q.seated.syncs m))
@@ -115,7 +115,7 @@ module _ (g : Setting) (who who' : Roles) (c t : ℕ) (roles : AreRoles g who) (
       let q = seated.before d u s other is in
       ⊎_elim (λ (old : sync_in q.hand ≡ Some n). inl (q.runner, q.hand, q.was, inr old)) (λ new. inr new) (q.sync n e)
 
-  owner_still : (d u v n : ℕ) (s i : Runner) (other hand : Option Hand) → who' d u ≡ used_by s other → who' d v ≡ used_by i hand → Owns s other n → Owns i hand n → v ≡ u
+  owner_still : (d u v n : ℕ) (s i : Runner) (other hand : Option Acquired) → who' d u ≡ used_by s other → who' d v ≡ used_by i hand → Owns s other n → Owns i hand n → v ≡ u
   owner_still d u v n s i other hand is its owns also =
       ⊎_elim
       (λ old.
@@ -130,7 +130,7 @@ module _ (g : Setting) (who who' : Roles) (c t : ℕ) (roles : AreRoles g who) (
       (owned_before d v n i hand its also))
       (owned_before d u n s other is owns)
 
-  branches_still : (d u d' u' b : ℕ) (s i : Runner) (other hand : Option Hand) → who' d u ≡ used_by s other → who' d' u' ≡ used_by i hand → IsAmong (own_branches s) b → IsAmong (own_branches i) b → (d' ≡ d) × (u' ≡ u)
+  branches_still : (d u d' u' b : ℕ) (s i : Runner) (other hand : Option Acquired) → who' d u ≡ used_by s other → who' d' u' ≡ used_by i hand → IsAmong (own_branches s) b → IsAmong (own_branches i) b → (d' ≡ d) × (u' ≡ u)
   branches_still d u d' u' b s i other hand is its m also =
       let q = seated.before d u s other is in
       let k = seated.before d' u' i hand its in
@@ -196,7 +196,7 @@ module _ (g : Setting) (who who' : Roles) (c t : ℕ) (roles : AreRoles g who) (
       none_is_some n e = cc
 
 -- One runner goes on where it was, with as many threads in hand; its synchroniser is the one that it had, or nobody's.
-module _ (g : Setting) (who : Roles) (c t : ℕ) (roles : AreRoles g who) (r : Runner) (hand : Option Hand) (was : who c t ≡ used_by r hand) (s : Runner) (hand' : Option Hand) where
+module _ (g : Setting) (who : Roles) (c t : ℕ) (roles : AreRoles g who) (r : Runner) (hand : Option Acquired) (was : who c t ≡ used_by r hand) (s : Runner) (hand' : Option Acquired) where
   abbrev pub goes_on : Roles
   goes_on = with_role who c t (used_by s hand')
 
@@ -230,7 +230,7 @@ module _ (g : Setting) (who : Roles) (c t : ℕ) (roles : AreRoles g who) (r : R
 
   module _ (on : GoesOn) where
     -- each runner was there before
-    before : (d u : ℕ) (i : Runner) (other : Option Hand) → goes_on d u ≡ used_by i other → Seat who c t d u i other
+    before : (d u : ℕ) (i : Runner) (other : Option Acquired) → goes_on d u ≡ used_by i other → Seat who c t d u i other
     before d u i other is =
         ⊎_elim
         (λ here.
@@ -256,7 +256,7 @@ module _ (g : Setting) (who : Roles) (c t : ℕ) (roles : AreRoles g who) (r : R
         (role_cases who c t (used_by s hand') d u)
 
     -- and each is there still
-    behind : (d u : ℕ) (i : Runner) (other : Option Hand) → who d u ≡ used_by i other → ((i.tie ≡ None) × (i.parents ≡ [])) ⊎ SeatStill goes_on d u i
+    behind : (d u : ℕ) (i : Runner) (other : Option Acquired) → who d u ≡ used_by i other → ((i.tie ≡ None) × (i.parents ≡ [])) ⊎ SeatStill goes_on d u i
     behind d u i other is =
         ⊎_elim
         (λ here.
@@ -266,14 +266,14 @@ module _ (g : Setting) (who : Roles) (c t : ℕ) (roles : AreRoles g who) (r : R
         (role_cases who c t (used_by s hand') d u)
 
     -- who holds what is as before
-    holds : (d u v : ℕ) (i : Runner) (other : Option Hand) → goes_on d u ≡ used_by i other → (j : Runner) × (old : Option Hand) × (who d u ≡ used_by j old) × (held_in other ≡ held_in old)
+    holds : (d u v : ℕ) (i : Runner) (other : Option Acquired) → goes_on d u ≡ used_by i other → (j : Runner) × (old : Option Acquired) × (who d u ≡ used_by j old) × (held_in other ≡ held_in old)
     holds d u v i other is =
         ⊎_elim
         (λ here. (r, hand, ap (λ k. who k u) here.0 ∙ ap (who c) here.1 ∙ was, ap held_in (sym (same_hand s i hand' other (sym here.2 ∙ is))) ∙ on.held))
         (λ there. (i, other, sym there.1 ∙ is, refl))
         (role_cases who c t (used_by s hand') d u)
 
-    holder : (d u v : ℕ) (i : Runner) (other : Option Hand) → who d u ≡ used_by i other → IsAmong (held_in other) v → (j : Runner) × (new : Option Hand) × (goes_on d u ≡ used_by j new) × IsAmong (held_in new) v
+    holder : (d u v : ℕ) (i : Runner) (other : Option Acquired) → who d u ≡ used_by i other → IsAmong (held_in other) v → (j : Runner) × (new : Option Acquired) × (goes_on d u ≡ used_by j new) × IsAmong (held_in new) v
     holder d u v i other is m =
         ⊎_elim
         (λ here.

@@ -6,7 +6,7 @@ use Rattle.xs_instr.specs.Pool.{first_free, is_unused, threads_taken}
 use Rattle.xs_instr.specs.Resources.{is_num}
 use Rattle.xc_meaning.proofs.Basics.{some_given, none_given}
 use Rattle.xc_invariants.specs.Needs.{total_of}
-use Rattle.xl_par.specs.Hands.{IsAmong, one_if, unused_in}
+use Rattle.xl_par.specs.Acquired.{IsAmong, one_if, unused_in}
 use Rattle.xr_simulation.specs.Roles.{IsOnce}
 
 -- of a function at 0, 1, ..

@@ -11,7 +11,7 @@ use Rattle.xc_meaning.specs.Settings.Time.{ticks}
 use Rattle.xc_meaning.specs.States.Worlds.{World, only_if, clock}
 use Rattle.xl_expr.proofs.Lists.{get_set_same, get_set_other}
 use Rattle.xl_expr.proofs.ResourceParts.{own_same}
-use Rattle.xl_par.specs.Hands.{Hand}
+use Rattle.xl_par.specs.Acquired.{Acquired}
 use Rattle.xr_match.specs.Implements.{clock_of}
 use Rattle.xr_match.specs.Lives.{Watched, watched_after}
 use Rattle.xr_match.specs.Meanings.{of_kernel}
@@ -32,7 +32,7 @@ pub no_machine : {A : Type 0} (m : Machine) → ◌≡◌ {A = Option Machine} N
 no_machine m e = cc
 
 -- the clock alone has gone up
-spare_ticked : (hand : Option Hand) (a : CoreState) → SpareFor hand a → SpareFor hand (ticked a)
+spare_ticked : (hand : Option Acquired) (a : CoreState) → SpareFor hand a → SpareFor hand (ticked a)
 spare_ticked None a h = tt
 spare_ticked (Some hand) a h = record { threads = h.threads; sync = h.sync; few_threads = h.few_threads; few_syncs = h.few_syncs; no_events = h.no_events; untied = h.untied }
 
@@ -58,7 +58,7 @@ module _ (moment : Moment none_rests)
   abbrev pub watched_ticked : Watched
   watched_ticked = watched_after w (Tick c) (record w.machine { cores = slice_set w.machine.cores c (ticked a) })
 
-  kept_here : (u : ℕ) (s : Runner) (hand : Option Hand) → who c u ≡ used_by s hand →
+  kept_here : (u : ℕ) (s : Runner) (hand : Option Acquired) → who c u ≡ used_by s hand →
       Rely g s (record { core = a; world = x.state; hand = hand }) (record { core = ticked a; world = later; hand = hand })
   kept_here u s hand runs =
       let k = kept_now moment c u a s hand at_c runs in
@@ -79,7 +79,7 @@ module _ (moment : Moment none_rests)
         spare = spare_ticked hand a k.spare;
       }
 
-  kept_far : (d u : ℕ) (e : CoreState) (s : Runner) (hand : Option Hand) → d ≢ c → slice_get w.machine.cores d ≡ Some e →
+  kept_far : (d u : ℕ) (e : CoreState) (s : Runner) (hand : Option Acquired) → d ≢ c → slice_get w.machine.cores d ≡ Some e →
       who d u ≡ used_by s hand → Rely g s (record { core = e; world = x.state; hand = hand })
       (record { core = e; world = later; hand = hand })
   kept_far d u e s hand ne at runs =

@@ -6,7 +6,7 @@ use Rattle.std.proofs.lemmas.Option.{same_Some}
 use Rattle.xs_instr.specs.declared.state.CoreState.{CoreState}
 use Rattle.xs_instr.specs.declared.state.Thread.{Thread}
 use Rattle.xc_disjoint.specs.Needs.{threads_on}
-use Rattle.xl_par.specs.Hands.{Hand, IsAmong, with_thread_got}
+use Rattle.xl_par.specs.Acquired.{Acquired, IsAmong, with_thread_got}
 use Rattle.xr_simulation.specs.Parents.{syncs_of}
 use Rattle.xr_simulation.specs.Roles.{AreRoles, AreUsedSo, Role, Roles, got_by, unused, used_by}
 use Rattle.xr_simulation.specs.Runners.{Setting, Runner}
@@ -43,7 +43,7 @@ waits_by a b u n alike (Some x) e h =
 pub waits_still : (a b : CoreState) (u n : ℕ) → IsUsedAlike a b u → IsWaitingTied n (slice_get a.threads u) → IsWaitingTied n (slice_get b.threads u)
 waits_still a b u n alike h = waits_by a b u n alike (slice_get a.threads u) refl h
 
-module _ (g : Setting) (who : Roles) (c t : ℕ) (roles : AreRoles g who) (r : Runner) (hand : Option Hand) (was : who c t ≡ used_by r hand) (a b : CoreState) (used : AreUsedSo who c a) where
+module _ (g : Setting) (who : Roles) (c t : ℕ) (roles : AreRoles g who) (r : Runner) (hand : Option Acquired) (was : who c t ≡ used_by r hand) (a b : CoreState) (used : AreUsedSo who c a) where
   -- the threads and synchronisers of others are used as they were
   pub record OthersUsed : Type 0 where
     pub as_many : length b.threads ≡ length a.threads
@@ -52,12 +52,12 @@ module _ (g : Setting) (who : Roles) (c t : ℕ) (roles : AreRoles g who) (r : R
     pub syncs : (n : ℕ) → (Owns r hand n → ⊥) → slice_get a.syncs n ≡ Some true → slice_get b.syncs n ≡ Some true
 
   -- what another thread owns is taken still
-  pub owned_still : OthersUsed → (u n : ℕ) (s : Runner) (other : Option Hand) → u ≢ t → who c u ≡ used_by s other → Owns s other n → slice_get b.syncs n ≡ Some true
+  pub owned_still : OthersUsed → (u n : ℕ) (s : Runner) (other : Option Acquired) → u ≢ t → who c u ≡ used_by s other → Owns s other n → slice_get b.syncs n ≡ Some true
   owned_still others u n s other ne is owns =
       others.syncs n (λ owns_r. ne (roles.owner c t u n r s hand other was is owns_r owns)) (used.owned u n s other is owns)
 
   -- the runner goes on with what it has in hand
-  module _ (s : Runner) (hand' : Option Hand) (others : OthersUsed) (taken_now : (n : ℕ) → slice_get b.syncs n ≡ Some true → Owns s hand' n ⊎ ((slice_get a.syncs n ≡ Some true) × (Owns r hand n → Owns s hand' n))) (owned_now : (n : ℕ) → Owns s hand' n → slice_get b.syncs n ≡ Some true) (sync_now : (n u : ℕ) → sync_in hand' ≡ Some n → IsAmong (held_in hand) u → sync_in hand ≡ Some n) where
+  module _ (s : Runner) (hand' : Option Acquired) (others : OthersUsed) (taken_now : (n : ℕ) → slice_get b.syncs n ≡ Some true → Owns s hand' n ⊎ ((slice_get a.syncs n ≡ Some true) × (Owns r hand n → Owns s hand' n))) (owned_now : (n : ℕ) → Owns s hand' n → slice_get b.syncs n ≡ Some true) (sync_now : (n u : ℕ) → sync_in hand' ≡ Some n → IsAmong (held_in hand) u → sync_in hand ≡ Some n) where
     abbrev who' : Roles
     who' = with_role who c t (used_by s hand')
 
@@ -69,7 +69,7 @@ module _ (g : Setting) (who : Roles) (c t : ℕ) (roles : AreRoles g who) (r : R
         (λ other. ((λ e. other.0 (refl, e)), sym other.1 ∙ is))
         (role_cases who c t (used_by s hand') c u)
 
-    taken_by : (n : ℕ) → slice_get b.syncs n ≡ Some true → (slice_get a.syncs n ≡ Some true) × (Owns r hand n → Owns s hand' n) → (u : ℕ) × (i : Runner) × (other : Option Hand) × (who' c u ≡ used_by i other) × Owns i other n
+    taken_by : (n : ℕ) → slice_get b.syncs n ≡ Some true → (slice_get a.syncs n ≡ Some true) × (Owns r hand n → Owns s hand' n) → (u : ℕ) × (i : Runner) × (other : Option Acquired) × (who' c u ≡ used_by i other) × Owns i other n
     taken_by n is (before, on) =
         let k = used.taken n before in
         ⊎_elim
@@ -80,7 +80,7 @@ module _ (g : Setting) (who : Roles) (c t : ℕ) (roles : AreRoles g who) (r : R
         (λ there. (k.0, k.1, k.2, there.1 ∙ k.3, k.4))
         (role_cases who c t (used_by s hand') c k.0)
 
-    owned_by : (u n : ℕ) (i : Runner) (other : Option Hand) → who' c u ≡ used_by i other → Owns i other n → slice_get b.syncs n ≡ Some true
+    owned_by : (u n : ℕ) (i : Runner) (other : Option Acquired) → who' c u ≡ used_by i other → Owns i other n → slice_get b.syncs n ≡ Some true
     owned_by u n i other is owns =
         ⊎_elim
         (λ here.
@@ -89,7 +89,7 @@ module _ (g : Setting) (who : Roles) (c t : ℕ) (roles : AreRoles g who) (r : R
         (λ there. owned_still others u n i other (λ e. there.0 (refl, e)) (sym there.1 ∙ is) owns)
         (role_cases who c t (used_by s hand') c u)
 
-    got_by_hand : (u k n : ℕ) (i : Runner) (other : Option Hand) → who' c u ≡ got_by k → who' c k ≡ used_by i other → sync_in other ≡ Some n → IsWaitingTied n (slice_get b.threads u)
+    got_by_hand : (u k n : ℕ) (i : Runner) (other : Option Acquired) → who' c u ≡ got_by k → who' c k ≡ used_by i other → sync_in other ≡ Some n → IsWaitingTied n (slice_get b.threads u)
     got_by_hand u k n i other is its sync =
         let old = not_here u (got_by k) is (λ e. got_runs k s hand' e) in
         waits_still a b u n (others.alike u old.0)
@@ -104,7 +104,7 @@ module _ (g : Setting) (who : Roles) (c t : ℕ) (roles : AreRoles g who) (r : R
         (λ there. used.got u k n i other old.1 (sym there.1 ∙ its) sync)
         (role_cases who c t (used_by s hand') c k))
       where
-        got_runs : (k : ℕ) (s : Runner) (h : Option Hand) → got_by k ≡ used_by s h → ⊥
+        got_runs : (k : ℕ) (s : Runner) (h : Option Acquired) → got_by k ≡ used_by s h → ⊥
         got_runs k s h e = cc
 
     unused_runs : unused ≡ used_by s hand' → ⊥
@@ -136,7 +136,7 @@ module _ (g : Setting) (who : Roles) (c t : ℕ) (roles : AreRoles g who) (r : R
   got_used : (k : ℕ) → got_by k ≢ unused
   got_used k e = cc
 
-  runs_used : (s : Runner) (other : Option Hand) → used_by s other ≢ unused
+  runs_used : (s : Runner) (other : Option Acquired) → used_by s other ≢ unused
   runs_used s other e = cc
 
   pub used_leave : AreUsedSo (with_role who c t unused) c b
@@ -164,11 +164,11 @@ module _ (g : Setting) (who : Roles) (c t : ℕ) (roles : AreRoles g who) (r : R
   }
 
 -- A runner gets a thread that was unused, which waits from now on and is tied to the runner's synchroniser.
-module _ (g : Setting) (who : Roles) (c t v : ℕ) (roles : AreRoles g who) (r : Runner) (hand : Hand) (was : who c t ≡ used_by r (Some hand)) (free : who c v ≡ unused) (few : v < 8) (inside : v < threads_on g.program c) (a b : CoreState) (used : AreUsedSo who c a) (n : ℕ) (sync : hand.sync ≡ Some n) where
+module _ (g : Setting) (who : Roles) (c t v : ℕ) (roles : AreRoles g who) (r : Runner) (hand : Acquired) (was : who c t ≡ used_by r (Some hand)) (free : who c v ≡ unused) (few : v < 8) (inside : v < threads_on g.program c) (a b : CoreState) (used : AreUsedSo who c a) (n : ℕ) (sync : hand.sync ≡ Some n) where
   abbrev place_at : ℕ → Type 0
   place_at u = Place g who c t v roles r hand was free few inside c u
 
-  abbrev more : Option Hand
+  abbrev more : Option Acquired
   more = Some (with_thread_got hand v)
 
   abbrev who_gets : Roles
@@ -203,14 +203,14 @@ module _ (g : Setting) (who : Roles) (c t v : ℕ) (roles : AreRoles g who) (r :
             subst IsFree (sym (others u (not_t u unused old_is unused_runs_not) ne)) (used.unused u lt old_is)
 
     -- who holds a thread held it, or it is the new one
-    waits_now : (u k m : ℕ) (i : Runner) (other : Option Hand) → who c u ≡ got_by k → who_gets c k ≡ used_by i other → sync_in other ≡ Some m → place_at k → IsWaitingTied m (slice_get a.threads u)
+    waits_now : (u k m : ℕ) (i : Runner) (other : Option Acquired) → who c u ≡ got_by k → who_gets c k ≡ used_by i other → sync_in other ≡ Some m → place_at k → IsWaitingTied m (slice_get a.threads u)
     waits_now u k m i other is its of_hand (own dc kt now old_is) =
         let same = same_hand r i more other (sym now ∙ its) in
         used.got u k m r (Some hand) is old_is (ap sync_in same ∙ of_hand)
     waits_now u k m i other is its of_hand (new dc kv now old_is) = let both : got_by t ≡ used_by i other = sym now ∙ its in cc
     waits_now u k m i other is its of_hand (old same) = used.got u k m i other is (sym same ∙ its) of_hand
 
-    got_now : (u k m : ℕ) (i : Runner) (other : Option Hand) → who_gets c u ≡ got_by k → who_gets c k ≡ used_by i other → sync_in other ≡ Some m → place_at u → IsWaitingTied m (slice_get b.threads u)
+    got_now : (u k m : ℕ) (i : Runner) (other : Option Acquired) → who_gets c u ≡ got_by k → who_gets c k ≡ used_by i other → sync_in other ≡ Some m → place_at u → IsWaitingTied m (slice_get b.threads u)
     got_now u k m i other is its of_hand (own dc ut now old_is) = let both : used_by r more ≡ got_by k = sym now ∙ is in cc
     got_now u k m i other is its of_hand (new dc uv now old_is) =
         let at : t ≡ k = got_same t k (sym now ∙ is) in
@@ -222,7 +222,7 @@ module _ (g : Setting) (who : Roles) (c t v : ℕ) (roles : AreRoles g who) (r :
         subst (IsWaitingTied m) (sym (others u (not_t u (got_by k) old_is (got_runs_not k)) (not_v u (got_by k) old_is (got_used_so k))))
         (waits_now u k m i other old_is its of_hand (place g who c t v roles r hand was free few inside c k))
 
-    taken_now : (m u : ℕ) (i : Runner) (other : Option Hand) → who c u ≡ used_by i other → Owns i other m → place_at u → (k : ℕ) × (j : Runner) × (h : Option Hand) × (who_gets c k ≡ used_by j h) × Owns j h m
+    taken_now : (m u : ℕ) (i : Runner) (other : Option Acquired) → who c u ≡ used_by i other → Owns i other m → place_at u → (k : ℕ) × (j : Runner) × (h : Option Acquired) × (who_gets c k ≡ used_by j h) × Owns j h m
     taken_now m u i other is owns (own dc ut now old_is) =
         let both : used_by r (Some hand) ≡ used_by i other = sym old_is ∙ is in
         (u, r, more, now, own_more m (subst (λ j. Owns j (Some hand) m) (sym (same_runner r i (Some hand) other both)) (subst (λ h. Owns i h m) (sym (same_hand r i (Some hand) other both)) owns)))
@@ -233,7 +233,7 @@ module _ (g : Setting) (who : Roles) (c t v : ℕ) (roles : AreRoles g who) (r :
     taken_now m u i other is owns (new dc uv now old_is) = let both : unused ≡ used_by i other = sym old_is ∙ is in cc
     taken_now m u i other is owns (old same) = (u, i, other, same ∙ is, owns)
 
-    owned_now : (u m : ℕ) (i : Runner) (other : Option Hand) → who_gets c u ≡ used_by i other → Owns i other m → place_at u → slice_get a.syncs m ≡ Some true
+    owned_now : (u m : ℕ) (i : Runner) (other : Option Acquired) → who_gets c u ≡ used_by i other → Owns i other m → place_at u → slice_get a.syncs m ≡ Some true
     owned_now u m i other is owns (own dc ut now old_is) =
         let both : used_by r more ≡ used_by i other = sym now ∙ is in
         used.owned u m r (Some hand) old_is (own_less m (subst (λ j. Owns j more m) (sym (same_runner r i more other both)) (subst (λ h. Owns i h m) (sym (same_hand r i more other both)) owns)))

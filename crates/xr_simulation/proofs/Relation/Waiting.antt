@@ -5,7 +5,7 @@ use Rattle.std.proofs.lemmas.Option.{same_Some}
 use Rattle.xc_invariants.specs.Tree.{IsForest}
 use Rattle.xc_meaning.specs.States.Branches.{Branch, runs, waits}
 use Rattle.xc_meaning.specs.States.Worlds.{World}
-use Rattle.xl_par.specs.Hands.{IsAmong}
+use Rattle.xl_par.specs.Acquired.{IsAmong}
 use Rattle.xr_simulation.specs.Parents.{Parent, branches_of}
 use Rattle.xr_simulation.specs.Roles.{ParentWaits, ParentsWait}
 use Rattle.xr_simulation.specs.Runners.{Setting}

@@ -21,7 +21,7 @@ use Rattle.xc_invariants.specs.Sided.{Differ}
 use Rattle.xc_invariants.proofs.Always.{none_clash, one_on_each_side}
 use Rattle.xl_expr.specs.declared.plan.VarPlan.{VarPlan}
 use Rattle.xl_expr.specs.Frames.{IsNear}
-use Rattle.xl_par.specs.Hands.{Hand}
+use Rattle.xl_par.specs.Acquired.{Acquired}
 use Rattle.xl_plan.specs.Layout.{core_of, core_of_port, core_of_timer, end_number, temporary_of, port_number, timer_number}
 use Rattle.xr_simulation.specs.Images.{AreLines, IsImageOf}
 use Rattle.xr_simulation.specs.Roles.{AreRoles, Role, Roles, unused, used_by}
@@ -54,14 +54,14 @@ place_is K c first core here = ap (λ d. record { core = d; end = end_number K d
 place_is K c second core here = ap (λ d. record { core = d; end = end_number K d c second }) here
 
 -- one that is used is not unused
-pub not_unused : (o : Role) (r : Runner) (hand : Option Hand) → o ≡ used_by r hand → o ≢ unused
+pub not_unused : (o : Role) (r : Runner) (hand : Option Acquired) → o ≡ used_by r hand → o ≢ unused
 not_unused o r hand e f = let z : used_by r hand ≡ unused = sym e ∙ f in absurd cc
 
-pub role_inside : (g : Setting) (who : Roles) → AreRoles g who → (c t : ℕ) (r : Runner) (hand : Option Hand) → who c t ≡ used_by r hand → t < threads_on g.program c
+pub role_inside : (g : Setting) (who : Roles) → AreRoles g who → (c t : ℕ) (r : Runner) (hand : Option Acquired) → who c t ≡ used_by r hand → t < threads_on g.program c
 role_inside g who roles c t r hand e = roles.inside c t (not_unused (who c t) r hand e)
 
 -- each runner is laid out, and its temporary words are there
-pub laid_of_role : (g : Setting) (start who : Roles) → IsImageOf g start → AreRoles g who → (c t : ℕ) (r : Runner) (hand : Option Hand) →
+pub laid_of_role : (g : Setting) (start who : Roles) → IsImageOf g start → AreRoles g who → (c t : ℕ) (r : Runner) (hand : Option Acquired) →
     who c t ≡ used_by r hand →
     (x : World) → Works g x r hand → IsLaidOut g r
 laid_of_role g start who image roles c t r hand e x works =
@@ -72,7 +72,7 @@ laid_of_role g start who image roles c t r hand e x works =
     (roles.stack c t r hand e ∙ ap (temporary_of g.program c) (sym (roles.thread c t r hand e)))
     (λ v. subst (λ (f : Footprint). f.changes v ≡ true → f.uses v ≡ true) (sym works.footprint) (changed_used_items works.branch.items v))
 
-pub room_of_role : (g : Setting) (start who : Roles) → IsImageOf g start → AreRoles g who → (c t : ℕ) (r : Runner) (hand : Option Hand) →
+pub room_of_role : (g : Setting) (start who : Roles) → IsImageOf g start → AreRoles g who → (c t : ℕ) (r : Runner) (hand : Option Acquired) →
     who c t ≡ used_by r hand →
     r.stack + temporary ≤ (parts_in g.image.cores c).words
 room_of_role g start who image roles c t r hand e =
@@ -84,7 +84,7 @@ room_of_role g start who image roles c t r hand e =
 
 module _ (g : Setting) (who : Roles) (x : World) (lawful : Lawful g.program x) (roles : AreRoles g who) where
   -- Two runners.
-  module _ (c t c' t' : ℕ) (r s : Runner) (hand other : Option Hand) (e : who c t ≡ used_by r hand) (f : who c' t' ≡ used_by s other)
+  module _ (c t c' t' : ℕ) (r s : Runner) (hand other : Option Acquired) (e : who c t ≡ used_by r hand) (f : who c' t' ≡ used_by s other)
       (differ : (c' ≡ c) × (t' ≡ t) → ⊥) (works : Works g x r hand) (works' : Works g x s other) where
     -- they run two branches
     pub other_branch : r.branch ≢ s.branch
@@ -133,7 +133,7 @@ module _ (g : Setting) (who : Roles) (x : World) (lawful : Lawful g.program x) (
         (subst (λ (k : Footprint). k.channels n ≡ true) works'.footprint has))))
 
   -- Two of one core.
-  module _ (lines : AreLines g) (c t t' : ℕ) (r s : Runner) (hand other : Option Hand) (e : who c t ≡ used_by r hand)
+  module _ (lines : AreLines g) (c t t' : ℕ) (r s : Runner) (hand other : Option Acquired) (e : who c t ≡ used_by r hand)
       (f : who c t' ≡ used_by s other)
       (differ : t' ≢ t) (works : Works g x r hand) (works' : Works g x s other) (laid : IsLaidOut g r) (laid' : IsLaidOut g s) where
     cores : r.core ≡ s.core

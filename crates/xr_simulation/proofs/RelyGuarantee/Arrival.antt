@@ -26,7 +26,7 @@ use Rattle.xr_simulation.specs.Turns.{IsAt}
 use Rattle.xr_simulation.proofs.Relation.PortDeclarations.{declared_there, same_declared}
 use Rattle.xr_simulation.proofs.Relation.Sizes.{same_sizes}
 use Rattle.xl_expr.specs.PartSteps.{KeptParts, PartsStep, WithinParts}
-use Rattle.xl_expr.specs.ResourceParts.{part_of, port_alone, timer_alone}
+use Rattle.xl_expr.specs.ResourceParts.{resource_state, port_alone, timer_alone}
 
 -- all resources
 abbrev pub any_part : Res → Type 0
@@ -56,7 +56,7 @@ module _ (g : Setting) (r : Runner) where
   -- variables in the store, and what it has in hand; and its thread runs
   pub record Since (leaves : ℕ → Type 0) (stays : Res → Type 0) (z y : ThreadView) : Type 0 where
     pub words : (w : ℕ) → relied g r w ≡ true → leaves w → slice_get y.core.words w ≡ slice_get z.core.words w
-    pub parts : (res : Res) → IsMine g r res → stays res → part_of y.core res ≡ part_of z.core res
+    pub parts : (res : Res) → IsMine g r res → stays res → resource_state y.core res ≡ resource_state z.core res
     pub branch : slice_get y.world.branches r.branch ≡ slice_get z.world.branches r.branch
     pub store : (v : ℕ) → r.footprint.uses v ≡ true → words_of y.world.store v ≡ words_of z.world.store v
     pub room : r.stack + temporary ≤ length z.core.words → r.stack + temporary ≤ length y.core.words

@@ -20,7 +20,7 @@ use Rattle.xc_meaning.proofs.Basics.{some_given}
 use Rattle.xl_expr.specs.declared.plan.VarPlan.{VarPlan}
 use Rattle.xl_expr.specs.Frames.{Holds, IsNear}
 use Rattle.xl_expr.specs.ResourceParts.{OtherPartsStay}
-use Rattle.xl_par.specs.Hands.{Hand}
+use Rattle.xl_par.specs.Acquired.{Acquired}
 use Rattle.xl_plan.specs.Layout.{core_of_port, port_number}
 use Rattle.xr_simulation.specs.Parents.{Parent}
 use Rattle.xr_simulation.specs.Roles.{IsParent, ParentsWait, ParentWaits, Roles, used_by}
@@ -135,13 +135,13 @@ module _ (g : Setting) (x : World) (lawful : Lawful g.program x) where
 
 -- Once the branches of a `par` have ended, nobody may change what is left to their maker, on any core.
 module _ (g : Setting) (who : Roles) (x : World) (lawful : Lawful g.program x)
-    (works : (c t : ℕ) (r : Runner) (hand : Option Hand) → who c t ≡ used_by r hand → Works g x r hand) where
-  module _ (c t : ℕ) (r : Runner) (hand : Option Hand) (p : Parent) (ps : List Parent) (runs : who c t ≡ used_by r hand) (parents : r.parents ≡ p ∷ ps) (all : HaveEnded x p.from p.count) where
+    (works : (c t : ℕ) (r : Runner) (hand : Option Acquired) → who c t ≡ used_by r hand → Works g x r hand) where
+  module _ (c t : ℕ) (r : Runner) (hand : Option Acquired) (p : Parent) (ps : List Parent) (runs : who c t ≡ used_by r hand) (parents : r.parents ≡ p ∷ ps) (all : HaveEnded x p.from p.count) where
     waiting : ParentWaits g x r.core r.family p r.branch
     waiting = (subst (λ qs. ParentsWait g x r.core r.family qs r.branch) parents (works c t r hand runs).parents).0
 
     -- what each other runner has to do is apart from it
-    apart_of : (u : ℕ) (s : Runner) (other : Option Hand) → (runs' : who c u ≡ used_by s other) → AreApart p.items (works c u s other runs').branch.items ⊎ ((works c u s other runs').branch.items ≡ [])
+    apart_of : (u : ℕ) (s : Runner) (other : Option Acquired) → (runs' : who c u ≡ used_by s other) → AreApart p.items (works c u s other runs').branch.items ⊎ ((works c u s other runs').branch.items ≡ [])
     apart_of u s other runs' =
         let w = waiting in
         let k = works c u s other runs' in
@@ -176,7 +176,7 @@ module _ (g : Setting) (who : Roles) (x : World) (lawful : Lawful g.program x)
       wanted : (v : ℕ) → (footprint_of p.items).uses v ≡ true → IsWanted who c v
       wanted v uses = record { thread = t; runner = r; hand = hand; runs = runs; parent = p; waits = subst (λ qs. IsParent qs p) (sym parents) (inl refl); uses = uses }
 
-      pub holds_behind : (hand' : Option Hand) → HoldsStore g s (record { core = a; world = x; hand = hand' })
+      pub holds_behind : (hand' : Option Acquired) → HoldsStore g s (record { core = a; world = x; hand = hand' })
       holds_behind hand' = record {
         holds = subst (λ k. HoldsPlaces g k s.footprint.uses a.words x.store) (sym on)
             (holds_all (places g c) s.footprint.uses a.words x.store
@@ -186,7 +186,7 @@ module _ (g : Setting) (who : Roles) (x : World) (lawful : Lawful g.program x)
         room = room;
       }
 
-      pub ports_behind : (hand' : Option Hand) → PortsStand g s (record { core = a; world = x; hand = hand' })
+      pub ports_behind : (hand' : Option Acquired) → PortsStand g s (record { core = a; world = x; hand = hand' })
       ports_behind hand' q listed is =
           let mine = subst (λ (f : Footprint). f.ports q ≡ true) has is.mine in
           let any : IsPort g (anyone c) q listed = record { mine = refl; known = is.known; core = is.core ∙ on } in
@@ -267,9 +267,9 @@ module _ (g : Setting) (who who' : Roles) (c : ℕ) (a b : CoreState) (x y : Wor
 
 -- Another core, which stays as it is: what a branch there wants that waits, the runner doesn't change.
 pub far_wanted : (g : Setting) (who : Roles) (x : World) → Lawful g.program x →
-    ((c t : ℕ) (r : Runner) (hand : Option Hand) → who c t ≡ used_by r hand → Works g x r hand) →
-    (c t c' : ℕ) (r : Runner) (hand : Option Hand) → who c t ≡ used_by r hand → r.core ≡ c → c' ≢ c →
-    ((c t : ℕ) (s : Runner) (other : Option Hand) → who c t ≡ used_by s other → s.core ≡ c) →
+    ((c t : ℕ) (r : Runner) (hand : Option Acquired) → who c t ≡ used_by r hand → Works g x r hand) →
+    (c t c' : ℕ) (r : Runner) (hand : Option Acquired) → who c t ≡ used_by r hand → r.core ≡ c → c' ≢ c →
+    ((c t : ℕ) (s : Runner) (other : Option Acquired) → who c t ≡ used_by s other → s.core ≡ c) →
     (v : ℕ) → IsWanted who c' v → r.footprint.changes v ≡ false
 far_wanted g who x lawful works c t c' r hand runs_r on ne cores v want =
     let q = want.runner in

@@ -15,12 +15,12 @@ use Rattle.xc_meaning.specs.States.Branches.{Branch, has_ended}
 use Rattle.xc_meaning.specs.States.Worlds.{World}
 use Rattle.xl_expr.specs.declared.plan.VarPlan.{VarPlan}
 use Rattle.xl_expr.specs.Frames.{IsNear}
-use Rattle.xl_par.specs.Hands.{Hand}
+use Rattle.xl_par.specs.Acquired.{Acquired}
 use Rattle.xl_plan.specs.Layout.{core_of_port, port_number}
 use Rattle.xr_match.specs.Lives.{Life, Watched}
 use Rattle.xr_match.specs.Systems.{SomeIs}
 use Rattle.xr_simulation.specs.Living.{AreNamed}
-use Rattle.xr_simulation.specs.Roles.{AreRoles, AreUsedSo, HandFits, Roles, got_by, used_by}
+use Rattle.xr_simulation.specs.Roles.{AreRoles, AreUsedSo, AcquiredFits, Roles, got_by, used_by}
 use Rattle.xr_simulation.specs.Runners.{HoldsPlaces, Setting, Runner, IsLaidOut, IsPort, MayChange, anyone, of_stack, of_variable, places, port_place}
 use Rattle.xr_simulation.specs.ThreadViews.{Guarantee, Owns, StillRuns}
 use Rattle.xr_simulation.specs.Standing.{AreLoose, EventsAre, IsRun, IsWanted, NobodyChanges, NobodyHas, Stand, Stands, StandsBy, ThreadIs, none_rests, only}
@@ -94,16 +94,16 @@ pub record IsNewlyUsed (a b : CoreState) (u : ℕ) : Type 0 where
 
 -- What a silent step makes of the roles: each runner is there as before, the thread's own with what it has in hand now.
 pub record SilentRoles
-    (g : Setting) (who who' : Roles) (c t : ℕ) (r : Runner) (hand hand' : Option Hand) (a b : CoreState) (branch : Branch) (moved : (thread : ℕ) → Bool) : Type 0 where
+    (g : Setting) (who who' : Roles) (c t : ℕ) (r : Runner) (hand hand' : Option Acquired) (a b : CoreState) (branch : Branch) (moved : (thread : ℕ) → Bool) : Type 0 where
   pub own : moved t ≡ true
   pub now : who' c t ≡ used_by r hand'
-  pub in_hand : HandFits branch.items hand'
+  pub in_hand : AcquiredFits branch.items hand'
   pub same_role : (u : ℕ) → moved u ≡ false → who' c u ≡ who c u
   pub far_role : (d u : ℕ) → d ≢ c → who' d u ≡ who d u
   pub others_got : (u : ℕ) → moved u ≡ true → u ≢ t → who' c u ≡ got_by t
   pub fresh : (u : ℕ) → moved u ≡ true → u ≢ t → (who c u ≡ got_by t) ⊎ IsNewlyUsed a b u
-  pub before : (d u : ℕ) (i : Runner) (other : Option Hand) → who' d u ≡ used_by i other → (old : Option Hand) × (who d u ≡ used_by i old)
-  pub still : (d u : ℕ) (i : Runner) (other : Option Hand) → who d u ≡ used_by i other → (new : Option Hand) × (who' d u ≡ used_by i new)
+  pub before : (d u : ℕ) (i : Runner) (other : Option Acquired) → who' d u ≡ used_by i other → (old : Option Acquired) × (who d u ≡ used_by i old)
+  pub still : (d u : ℕ) (i : Runner) (other : Option Acquired) → who d u ≡ used_by i other → (new : Option Acquired) × (who' d u ≡ used_by i new)
   pub gives : GiveAsBefore who who'
   pub roles : AreRoles g who'
   pub used : AreUsedSo who' c b
@@ -112,8 +112,8 @@ pub record SilentRoles
   pub ties : (u n : ℕ) (thread : Thread) → moved u ≡ true → slice_get b.threads u ≡ Some thread → is_tied thread n ≡ true → Owns r hand n ⊎ (r.tie ≡ Some n)
   pub syncs : (n : ℕ) → (Owns r hand n → ⊥) → slice_get a.syncs n ≡ Some true → slice_get b.syncs n ≡ Some true
 
-module _ {moment : Moment none_rests} {hand : Option Hand} {thread_at : ThreadAt moment hand} (branch_at : BranchAt thread_at)
-    (b : CoreState) (hand' : Option Hand)
+module _ {moment : Moment none_rests} {hand : Option Acquired} {thread_at : ThreadAt moment hand} (branch_at : BranchAt thread_at)
+    (b : CoreState) (hand' : Option Acquired)
     (alive : (mode : ThreadMode) → mode ≡ Running → ThreadIs thread_at.runner.parents branch_at.branch.mode mode)
     (calm : (bit : Bool) → bit ≡ false → EventsAre branch_at.branch.mode branch_at.branch.items bit)
     (on : StillRuns moment.setting thread_at.runner b)

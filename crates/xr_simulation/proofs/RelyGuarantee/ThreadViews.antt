@@ -1,6 +1,6 @@
 -- Ways of silent steps: joined, made longer, and left as they are by what others do.
 use Rattle.std.proofs.Common.{◌≡◌, ℕ, zero, suc, ◌+◌, ◌≤◌, List, inl, inr, ⊎_elim, sym, ap, ◌∙◌, subst, arith}
-use Rattle.xl_par.specs.Hands.{IsAmong}
+use Rattle.xl_par.specs.Acquired.{IsAmong}
 use Rattle.xr_simulation.specs.Parents.{Parent}
 use Rattle.xr_simulation.specs.Runners.{IsMine, Setting, Runner}
 use Rattle.xr_simulation.specs.ThreadViews.{ThreadView, Rely, LeadsIn, IsStable, Owns, SpareFor, held_in, sync_in}

@@ -13,7 +13,7 @@ use Rattle.xc_meaning.specs.Runs.{acts, acts_all}
 use Rattle.xc_meaning.specs.States.Branches.{Branch, Mode, ended, erred, runs, waits}
 use Rattle.xc_meaning.specs.States.Items.{Item}
 use Rattle.xc_meaning.specs.States.Worlds.{Action, World}
-use Rattle.xl_par.specs.Hands.{Hand}
+use Rattle.xl_par.specs.Acquired.{Acquired}
 use Rattle.xr_match.specs.Lives.{Life, Watched}
 use Rattle.xr_match.specs.Meanings.{of_kernel}
 use Rattle.xr_match.specs.Sources.{Told}
@@ -72,7 +72,7 @@ by_cases g r rests items ended left z h = inl (λ b. h)
 by_cases g r rests items erred left z h = inl (λ b. h)
 
 -- the thread stands where it is, by other means
-stands_otherwise : (g : Setting) (r : Runner) (rests rests' : Bool) (hand : Option Hand) (a : CoreState) (x : World) (life : Life) (actions : ℕ → ℕ) (branch : Branch) → (h : Stand g r rests hand a x life actions branch) →
+stands_otherwise : (g : Setting) (r : Runner) (rests rests' : Bool) (hand : Option Acquired) (a : CoreState) (x : World) (life : Life) (actions : ℕ → ℕ) (branch : Branch) → (h : Stand g r rests hand a x life actions branch) →
     StandsBy g r rests' branch.items branch.mode h.left (record { core = a; world = x; hand = hand }) → Stand g r rests' hand a x life actions branch
 stands_otherwise g r rests rests' hand a x life actions branch h by = record {
   core = h.core;
@@ -92,8 +92,8 @@ stands_otherwise g r rests rests' hand a x life actions branch h by = record {
 }
 
 -- a role's thread stands as before, where it may rest if it might, and families may have done more
-role_as : (g : Setting) (rests rests' : Bool) (a : CoreState) (x : World) (life : Life) (actions more : ℕ → ℕ) (role : Role) → ((s : Runner) (hand : Option Hand) → role ≡ used_by s hand → rests ≡ true → rests' ≡ true) →
-    ((s : Runner) (hand : Option Hand) → role ≡ used_by s hand →
+role_as : (g : Setting) (rests rests' : Bool) (a : CoreState) (x : World) (life : Life) (actions more : ℕ → ℕ) (role : Role) → ((s : Runner) (hand : Option Acquired) → role ≡ used_by s hand → rests ≡ true → rests' ≡ true) →
+    ((s : Runner) (hand : Option Acquired) → role ≡ used_by s hand →
     Rely g s (record { core = a; world = x; hand = hand }) (record { core = a; world = x; hand = hand })) →
     ((f : ℕ) → actions f ≤ more f) →
     Stands g rests a x life actions role → Stands g rests' a x life more role
@@ -126,19 +126,19 @@ module _ (g : Setting) (first : Roles) (is : IsImageOf g first) (w : Watched) wh
       made = st.made;
     }
 
-    one_as : (more : ℕ → ℕ) → ((f : ℕ) → x.actions f ≤ more f) → (i u : ℕ) (e : CoreState) → slice_get w.machine.cores i ≡ Some e → ((s : Runner) (hand : Option Hand) → who i u ≡ used_by s hand → may_rest i u ≡ true → may_rest' i u ≡ true) →
+    one_as : (more : ℕ → ℕ) → ((f : ℕ) → x.actions f ≤ more f) → (i u : ℕ) (e : CoreState) → slice_get w.machine.cores i ≡ Some e → ((s : Runner) (hand : Option Acquired) → who i u ≡ used_by s hand → may_rest i u ≡ true → may_rest' i u ≡ true) →
         Stands g (may_rest' i u) e x.state (w.lives i u) more (who i u)
     one_as more le i u e at rests =
         role_as g (may_rest i u) (may_rest' i u) e x.state (w.lives i u) x.actions more (who i u) rests
         (λ s hand runs_s. kept_now (moment_of g first is who w x st) i u e s hand at runs_s) le (st.threads i u e at)
 
     -- more may be at rest, and families may have done more
-    pub standing_as : (more : ℕ → ℕ) → ((f : ℕ) → x.actions f ≤ more f) → ((i u : ℕ) (s : Runner) (hand : Option Hand) → who i u ≡ used_by s hand → may_rest i u ≡ true → may_rest' i u ≡ true) →
+    pub standing_as : (more : ℕ → ℕ) → ((f : ℕ) → x.actions f ≤ more f) → ((i u : ℕ) (s : Runner) (hand : Option Acquired) → who i u ≡ used_by s hand → may_rest i u ≡ true → may_rest' i u ≡ true) →
         Standing g may_rest' who w (record { state = x.state; actions = more })
     standing_as more le rests = standing_by more (λ i u e at. one_as more le i u e at (rests i u))
 
     -- one thread isn't at rest
-    module _ (c t : ℕ) (r : Runner) (hand : Option Hand) (runs_r : who c t ≡ used_by r hand) (rests : (i u : ℕ) → ((i ≡ c) × (u ≡ t) → ⊥) → may_rest i u ≡ true → may_rest' i u ≡ true)
+    module _ (c t : ℕ) (r : Runner) (hand : Option Acquired) (runs_r : who c t ≡ used_by r hand) (rests : (i u : ℕ) → ((i ≡ c) × (u ≡ t) → ⊥) → may_rest i u ≡ true → may_rest' i u ≡ true)
         (branch : Branch) (known : slice_get x.state.branches r.branch ≡ Some branch)
         (calm : (e : CoreState) → slice_get w.machine.cores c ≡ Some e → Stand g r (may_rest' c t) hand e x.state (w.lives c t) x.actions branch) where
       calm_stands : (e : CoreState) → slice_get w.machine.cores c ≡ Some e → Stands g (may_rest' c t) e x.state (w.lives c t) x.actions (who c t)
@@ -218,7 +218,7 @@ module _ (g : Setting) (first : Roles) (is : IsImageOf g first) (w : Watched) wh
     this_core e at = same_Some a e (sym at_c ∙ at)
 
     -- it isn't at rest
-    calm_settles : (who : Roles) (x : Told (of_kernel g.program)) → Standing g may_rest who w x → (r : Runner) (hand : Option Hand) → who c t ≡ used_by r hand → (branch : Branch) → slice_get x.state.branches r.branch ≡ Some branch →
+    calm_settles : (who : Roles) (x : Told (of_kernel g.program)) → Standing g may_rest who w x → (r : Runner) (hand : Option Acquired) → who c t ≡ used_by r hand → (branch : Branch) → slice_get x.state.branches r.branch ≡ Some branch →
         (stand : Stand g r (may_rest c t) hand a x.state (w.lives c t) x.actions branch) → ((b : Bool) → StandsBy g r b branch.items branch.mode stand.left (record { core = a; world = x.state; hand = hand })) → Settles g may_rest' who w x w
     calm_settles who x st r hand runs_r branch known stand by =
         nothing_settles may_rest' who x
@@ -226,7 +226,7 @@ module _ (g : Setting) (first : Roles) (is : IsImageOf g first) (w : Watched) wh
         subst (λ k. Stand g r (may_rest' c t) hand k x.state (w.lives c t) x.actions branch) (this_core e at)
         (stands_otherwise g r (may_rest c t) (may_rest' c t) hand a x.state (w.lives c t) x.actions branch stand (by (may_rest' c t)))))
 
-    stand_of : (who : Roles) (x : Told (of_kernel g.program)) → Standing g may_rest who w x → (r : Runner) (hand : Option Hand) → who c t ≡ used_by r hand → (branch : Branch) → slice_get x.state.branches r.branch ≡ Some branch →
+    stand_of : (who : Roles) (x : Told (of_kernel g.program)) → Standing g may_rest who w x → (r : Runner) (hand : Option Acquired) → who c t ≡ used_by r hand → (branch : Branch) → slice_get x.state.branches r.branch ≡ Some branch →
         Stand g r (may_rest c t) hand a x.state (w.lives c t) x.actions branch
     stand_of who x st r hand runs_r branch known =
         subst (λ o. SomeIs o (Stand g r (may_rest c t) hand a x.state (w.lives c t) x.actions)) known
@@ -321,7 +321,7 @@ module _ (g : Setting) (first : Roles) (is : IsImageOf g first) (w : Watched) wh
       (λ (ne : i ≢ c). let both : false ≡ true = sym (others i u ne) ∙ may in absurd (let z : ⊥ = cc in z))
       (cases_eq i c)))
     where
-      used_so : (s : Runner) (hand : Option Hand) → used_by s hand ≡ unused → ⊥
+      used_so : (s : Runner) (hand : Option Acquired) → used_by s hand ≡ unused → ⊥
       used_so s hand e = cc
 
   -- so behind an event, where threads of its core may be at rest

@@ -16,13 +16,13 @@ use Rattle.xc_meaning.specs.States.Branches.{Branch, ended, runs}
 use Rattle.xc_meaning.specs.States.Items.{Item, does, ends, mark, todo}
 use Rattle.xc_meaning.specs.States.Worlds.{Action, World, go}
 use Rattle.xl_expr.proofs.Lists.{get_set_other, get_set_same}
-use Rattle.xl_par.specs.Hands.{Hand, IsAmong}
+use Rattle.xl_par.specs.Acquired.{Acquired, IsAmong}
 use Rattle.xr_match.specs.Lives.{Watched}
 use Rattle.xr_match.specs.Meanings.{of_kernel}
 use Rattle.xr_match.specs.Sources.{Told}
 use Rattle.xr_simulation.specs.Fits.{FitOn}
 use Rattle.xr_simulation.specs.Parents.{Parent, sync_before, syncs_of}
-use Rattle.xr_simulation.specs.Roles.{HandFits, IsOnce, ParentsWait, Roles, empty, unused, used_by}
+use Rattle.xr_simulation.specs.Roles.{AcquiredFits, IsOnce, ParentsWait, Roles, empty, unused, used_by}
 use Rattle.xr_simulation.specs.Runners.{Runner, Setting, anyone, footprint_of, outside, shrunk}
 use Rattle.xr_simulation.specs.Sizes.{sizes_in}
 use Rattle.xr_simulation.specs.ThreadViews.{ThreadView, running}
@@ -97,7 +97,7 @@ module _ {may_rest : (core thread : ℕ) → Bool} {moment : Moment may_rest} {t
 
   -- 1. It comes on its way.
   module _ (own : IsOwn r.parents items) (may_rest' : (core thread : ℕ) → Bool) (rests : (i u : ℕ) → ((i ≡ c) × (u ≡ t) → ⊥) → may_rest i u ≡ true → may_rest' i u ≡ true) where
-    abbrev hand : Option Hand
+    abbrev hand : Option Acquired
     hand = first_hand items
 
     nothing_done : IsSettled g r x.state r hand [] x.state
@@ -137,7 +137,7 @@ module _ {may_rest : (core thread : ℕ) → Bool} {moment : Moment may_rest} {t
       footprint = stand.footprint;
       parents = stand.parents;
       thread = stand.thread;
-      in_hand = subst (λ l. HandFits l hand) (sym items_are) (first_held items).0;
+      in_hand = subst (λ l. AcquiredFits l hand) (sym items_are) (first_held items).0;
       sides = stand.sides;
       inside = stand.inside;
       done = stand.done;
@@ -396,7 +396,7 @@ module _ {may_rest : (core thread : ℕ) → Bool} {moment : Moment may_rest} {t
             used_not_unused : used_by r None ≡ unused → ⊥
             used_not_unused e = cc
 
-        over_works_all : (i u : ℕ) (q : Runner) (other : Option Hand) → who_over i u ≡ used_by q other → Works g over_world q other
+        over_works_all : (i u : ℕ) (q : Runner) (other : Option Acquired) → who_over i u ≡ used_by q other → Works g over_world q other
         over_works_all i u q other at = works_settled thread_at over None (go r.branch ∷ []) over_world over_settled over_works
             i u q other at
 

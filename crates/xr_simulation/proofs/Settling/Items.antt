@@ -19,7 +19,7 @@ use Rattle.xc_meaning.specs.States.Items.{Item, does, mark, ends, todo}
 use Rattle.xc_meaning.specs.States.Worlds.{Action, World, go, only_if}
 use Rattle.xc_meaning.specs.Uses.{by_items}
 use Rattle.xl_expr.proofs.Lists.{get_set_same, get_set_other}
-use Rattle.xl_par.specs.Hands.{Hand, IsAmong}
+use Rattle.xl_par.specs.Acquired.{Acquired, IsAmong}
 use Rattle.xr_simulation.specs.Fits.{FitOn, ItemsFit}
 use Rattle.xr_simulation.specs.Items.{Behind, ClosingAt, EndAt, FirstAt, ItemsAt}
 use Rattle.xr_simulation.specs.Parents.{Parent, sync_before, syncs_of}
@@ -432,7 +432,7 @@ module _ (g : Setting) (r : Runner) (p : Parent) (ps : List Parent) where
       IsTaken : ThreadView → Type 0
       IsTaken x = (slice_get x.core.syncs n ≡ Some true) × (x.hand ≡ None)
 
-      owns : (hand : Option Hand) → Owns s hand n
+      owns : (hand : Option Acquired) → Owns s hand n
       owns hand = inl (subst (λ syncs. IsAmong syncs n) (sym (ap syncs_of parents ∙ ap (λ o. sync_before o (syncs_of ps)) sync)) (inl refl))
 
       lasts : IsStable g s IsTaken

@@ -11,9 +11,9 @@ use Rattle.xc_meaning.specs.Counts.KernelCounts.{branch_count, kernel_bound}
 use Rattle.xc_meaning.specs.States.Branches.{Branch, ended, erred, runs}
 use Rattle.xc_meaning.specs.States.Items.{Item, awaits, chooses, does, ends, fixed, mark, says, stamps, stores, transaction_end}
 use Rattle.xc_meaning.specs.States.Worlds.{World}
-use Rattle.xl_par.specs.Hands.{Hand, IsAmong, one_if, empty_hand}
+use Rattle.xl_par.specs.Acquired.{Acquired, IsAmong, one_if, nothing_acquired}
 use Rattle.xr_match.specs.Lives.{Life}
-use Rattle.xr_simulation.specs.Roles.{HandFits, IsOnce, ParentsWait, empty, opens}
+use Rattle.xr_simulation.specs.Roles.{AcquiredFits, IsOnce, ParentsWait, empty, opens}
 use Rattle.xr_simulation.specs.Runners.{Runner, Setting, footprint_of}
 use Rattle.xr_simulation.specs.ThreadViews.{held_in, running_so, sync_in}
 use Rattle.xr_simulation.specs.Standing.{Stand, StandsBy, StandsWith, ThreadIs}
@@ -44,12 +44,12 @@ few_behind n ns once below = let most = few_once (n ∷ ns) once below in omega 
 
 -- What is in hand before a first item.
 
-pub first_held : (items : List Item) → HandFits items (first_hand items) × (held_in (first_hand items) ≡ []) × (sync_in (first_hand items) ≡ None)
+pub first_held : (items : List Item) → AcquiredFits items (first_hand items) × (held_in (first_hand items) ≡ []) × (sync_in (first_hand items) ≡ None)
 first_held [] = (empty refl, refl, refl)
 first_held (does (kernel.par kernel.no_branch) ∷ rest) = (empty refl, refl, refl)
 first_held (does (kernel.par (kernel.more_branches b kernel.no_branch)) ∷ rest) = (empty refl, refl, refl)
 first_held (does (kernel.par (kernel.more_branches b (kernel.more_branches c bs))) ∷ rest) =
-    (opens (empty_hand (branch_count (kernel.more_branches c bs))) (kernel.more_branches b (kernel.more_branches c bs)) rest refl refl (omega arith) (omega arith) (λ e. refl), refl, refl)
+    (opens (nothing_acquired (branch_count (kernel.more_branches c bs))) (kernel.more_branches b (kernel.more_branches c bs)) rest refl refl (omega arith) (omega arith) (λ e. refl), refl, refl)
 first_held (does (kernel.set_zero v) ∷ rest) = (empty refl, refl, refl)
 first_held (does (kernel.set place x) ∷ rest) = (empty refl, refl, refl)
 first_held (does (kernel.output o) ∷ rest) = (empty refl, refl, refl)
@@ -71,7 +71,7 @@ first_held (fixed i v counter ∷ rest) = (empty refl, refl, refl)
 first_held (ends ∷ rest) = (empty refl, refl, refl)
 
 -- without a synchroniser it opens no `par`
-pub none_opened : (hand : Option Hand) → sync_in hand ≡ None → opened hand ≡ 0
+pub none_opened : (hand : Option Acquired) → sync_in hand ≡ None → opened hand ≡ 0
 none_opened None e = refl
 none_opened (Some hand) e = ap (λ o. opens_by o (some_more (length hand.threads) hand.lacks)) e
 

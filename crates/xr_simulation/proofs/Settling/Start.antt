@@ -3,7 +3,7 @@ use Rattle.std.proofs.Common.{◌≡◌, ◌≢◌, ℕ, zero, suc, ◌<◌, ◌
 use Rattle.std.specs.Prelude.{Bool, true, ◌&&◌, ◌||◌, nat_eq, nat_lt, slice_get}
 use Rattle.std.proofs.lemmas.Bool.{and_from, and_parts, cases_eq, eqb-true, or_cases, or_left, or_right}
 use Rattle.xs_instr.specs.declared.state.CoreState.{CoreState}
-use Rattle.xl_par.specs.Hands.{Hand}
+use Rattle.xl_par.specs.Acquired.{Acquired}
 use Rattle.xr_match.specs.Lives.{Watched}
 use Rattle.xr_match.specs.Meanings.{of_kernel}
 use Rattle.xr_match.specs.Sources.{Told}
@@ -60,7 +60,7 @@ module _ (g : Setting) (first : Roles) (is : IsImageOf g first) (w : Watched) wh
       (λ (ne : i ≢ c). or_left (nat_lt i c) (nat_eq i c && nat_lt u 8) (lt-ltb i c (let z : i < c = omega (arith, lt, ne) in z)))
       (cases_eq i c)
 
-  used_so : (s : Runner) (hand : Option Hand) → used_by s hand ≡ unused → ⊥
+  used_so : (s : Runner) (hand : Option Acquired) → used_by s hand ≡ unused → ⊥
   used_so s hand e = cc
 
   -- those of the first cores

@@ -12,7 +12,7 @@ use Rattle.xc_meaning.specs.Runs.{acts_all}
 use Rattle.xc_meaning.specs.States.Branches.{Branch, has_ended}
 use Rattle.xc_meaning.specs.States.Worlds.{Action, World}
 use Rattle.xc_meaning.specs.Uses.{by_items}
-use Rattle.xl_par.specs.Hands.{Hand, IsAmong}
+use Rattle.xl_par.specs.Acquired.{Acquired, IsAmong}
 use Rattle.xr_match.specs.Systems.{SomeIs}
 use Rattle.xr_simulation.specs.Parents.{Parent, branches_of}
 use Rattle.xr_simulation.specs.Roles.{AreRoles, AreUsedSo, HasReserves, IsParent, Roles, got_by, own_branches, used_by}
@@ -36,7 +36,7 @@ use Rattle.xl_expr.proofs.ResourceParts.{others_same}
 
 -- What becomes of the runner and of the program: variables and clocks stay, other branches do so, too, and of the runner's own ones those that
 -- go on are its own still.
-pub record IsSettled (g : Setting) (r : Runner) (x : World) (s : Runner) (hand : Option Hand) (piece : List Action) (y : World) : Type 0 where
+pub record IsSettled (g : Setting) (r : Runner) (x : World) (s : Runner) (hand : Option Acquired) (piece : List Action) (y : World) : Type 0 where
   pub acted : acts_all g.program g.stimulus (Some x) piece ≡ Some y
   pub clocks : y.clocks ≡ x.clocks
   pub trace : y.trace ≡ x.trace
@@ -58,7 +58,7 @@ pub record IsSettled (g : Setting) (r : Runner) (x : World) (s : Runner) (hand :
   pub wants : (p : Parent) (v : ℕ) → IsParent s.parents p → by_items (variable v) p.items ≡ true → IsParent r.parents p ⊎ (r.footprint.uses v ≡ true)
 
 module _ {may_rest : (core thread : ℕ) → Bool} {moment : Moment may_rest} (thread_at : ThreadAt moment None)
-    (s : Runner) (hand : Option Hand) (piece : List Action) (y : World)
+    (s : Runner) (hand : Option Acquired) (piece : List Action) (y : World)
     (d : IsSettled moment.setting thread_at.runner moment.told.state s hand piece y) where
   open moment use {setting as g, image as is, roles as who, watched as w, told as x, standing as st}
   open thread_at use {core as c, thread as t, state as a, at_core as at_c, runner as r, runs as runs_r}
@@ -148,7 +148,7 @@ module _ {may_rest : (core thread : ℕ) → Bool} {moment : Moment may_rest} (t
       (λ n u f m. absurd m)
 
   -- each other runner is there still
-  runner_still : (i u : ℕ) (q : Runner) (other : Option Hand) → who i u ≡ used_by q other → (r ≡ q) ⊎ (who_settled i u ≡ used_by q other)
+  runner_still : (i u : ℕ) (q : Runner) (other : Option Acquired) → who i u ≡ used_by q other → (r ≡ q) ⊎ (who_settled i u ≡ used_by q other)
   runner_still i u q other at =
       ⊎_elim
       (λ here. inl (same_runner r q None other (sym runs_r ∙ sym (ap (λ k. who k u) here.0 ∙ ap (who c) here.1) ∙ at)))
@@ -226,7 +226,7 @@ module _ {may_rest : (core thread : ℕ) → Bool} {moment : Moment may_rest} (t
           not_one transfer i in_none q same its = let both : None ≡ Some transfer = sym in_none ∙ ap (λ (k : Runner). k.transfer) same ∙ its in cc
 
       -- the runner is in none
-      none_inside : (u : ℕ) (q : Runner) (other : Option Hand) (transfer : Transfer) → nat_eq u t ≡ true → who_settled c u ≡ used_by q other → q.transfer ≡ Some transfer → ⊥
+      none_inside : (u : ℕ) (q : Runner) (other : Option Acquired) (transfer : Transfer) → nat_eq u t ≡ true → who_settled c u ≡ used_by q other → q.transfer ≡ Some transfer → ⊥
       none_inside u q other transfer m at its =
           let now : used_by s hand ≡ used_by q other = sym (role_here who c t (used_by s hand)) ∙ sym (ap (who_settled c) (eqb-true u t m)) ∙ at in
           let both : None ≡ Some transfer = sym (d.transfer ∙ none) ∙ ap (λ (k : Runner). k.transfer) (same_runner s q hand other now) ∙ its in cc
@@ -261,7 +261,7 @@ module _ {may_rest : (core thread : ℕ) → Bool} {moment : Moment may_rest} (t
           })
 
   -- what is known of the runners then
-  pub works_settled : Works g y s hand → (i u : ℕ) (q : Runner) (other : Option Hand) → who_settled i u ≡ used_by q other → Works g y q other
+  pub works_settled : Works g y s hand → (i u : ℕ) (q : Runner) (other : Option Acquired) → who_settled i u ≡ used_by q other → Works g y q other
   works_settled own i u q other at =
       ⊎_elim
       (λ here.

@@ -15,7 +15,7 @@ use Rattle.xc_meaning.specs.States.Items.{Item, does}
 use Rattle.xc_meaning.specs.States.Worlds.{World, go}
 use Rattle.xc_meaning.specs.Uses.{by_item, by_items}
 use Rattle.xl_expr.proofs.Lists.{get_set_other}
-use Rattle.xl_par.specs.Hands.{IsAmong}
+use Rattle.xl_par.specs.Acquired.{IsAmong}
 use Rattle.xr_simulation.specs.Parents.{Parent, branches_of, sync_before, syncs_of}
 use Rattle.xr_simulation.specs.Roles.{IsParent, ParentWaits, outermost, own_branches}
 use Rattle.xr_simulation.specs.Runners.{Footprint, Runner, Setting, footprint_of}

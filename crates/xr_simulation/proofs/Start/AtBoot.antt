@@ -14,14 +14,14 @@ use Rattle.xs_instr.specs.Slot.{instr_at}
 use Rattle.xc_disjoint.specs.Needs.{threads_on}
 use Rattle.xc_meaning.specs.States.Branches.{Branch, Mode, ended, erred, runs, waits}
 use Rattle.xc_meaning.specs.States.Items.{Item}
-use Rattle.xl_par.specs.Hands.{Hand}
+use Rattle.xl_par.specs.Acquired.{Acquired}
 use Rattle.xr_match.specs.Lives.{Life, begun, of_root, watched_start}
 use Rattle.xr_match.specs.Meanings.{of_kernel}
 use Rattle.xr_match.specs.Sources.{Told}
 use Rattle.xr_match.specs.Systems.{SomeIs}
 use Rattle.xr_simulation.specs.Images.{IsImageOf}
 use Rattle.xr_simulation.specs.Parents.{Parent}
-use Rattle.xr_simulation.specs.Roles.{AreUsedSo, HandFits, Role, Roles, empty, got_by, gives_back, opens, unused, used_by}
+use Rattle.xr_simulation.specs.Roles.{AreUsedSo, AcquiredFits, Role, Roles, empty, got_by, gives_back, opens, unused, used_by}
 use Rattle.xr_simulation.specs.Runners.{Setting, Runner, home}
 use Rattle.xr_simulation.specs.Sizes.{sizes_of}
 use Rattle.xr_simulation.specs.ThreadViews.{ThreadView, held_in, running, sync_in}
@@ -45,7 +45,7 @@ boot_cores_are L (suc (suc (suc zero))) a e = (omega arith, sym (same_Some _ a e
 boot_cores_are L (suc (suc (suc (suc c)))) a e = cc
 
 -- where no synchroniser was got, no thread was
-held_none : (items : List Item) (hand : Option Hand) → HandFits items hand → sync_in hand ≡ None → held_in hand ≡ []
+held_none : (items : List Item) (hand : Option Acquired) → AcquiredFits items hand → sync_in hand ≡ None → held_in hand ≡ []
 held_none items hand (empty e) none = ap held_in e
 held_none items hand (gives_back n e) none = ap held_in e
 held_none items hand (opens h bs rest e is sum several no_threads) none = ap held_in e ∙ no_threads (sym (ap sync_in e) ∙ none)
@@ -69,7 +69,7 @@ module _ (g : Setting) (who : Roles) (is : IsImageOf g who) where
 
   -- A root's thread, as a runner has it that goes on with it.
   module _ (r r0 : Runner) (e : who r0.core r0.thread ≡ used_by r0 None) (core : r.core ≡ r0.core) (thread : r.thread ≡ r0.thread) (tie : r.tie ≡ None)
-      (x : Told (of_kernel g.program)) (hand : Option Hand) (none_held : held_in hand ≡ []) (no_sync : sync_in hand ≡ None) where
+      (x : Told (of_kernel g.program)) (hand : Option Acquired) (none_held : held_in hand ≡ []) (no_sync : sync_in hand ≡ None) where
     abbrev root : RunsRoot g who is r0.core r0.thread r0 None
     root = root_of g who is r0.core r0.thread r0 None e
 
@@ -165,9 +165,9 @@ module _ (g : Setting) (who : Roles) (is : IsImageOf g who) where
         }
 
   module _ (who' : Roles) (x : Told (of_kernel g.program)) (st : Standing g none_rests who' (set_watched who g.image) x)
-      (none_begun : (c t : ℕ) (r : Runner) (hand : Option Hand) → who' c t ≡ used_by r hand → r.transfer ≡ None) where
+      (none_begun : (c t : ℕ) (r : Runner) (hand : Option Acquired) → who' c t ≡ used_by r hand → r.transfer ≡ None) where
     -- no runner has a synchroniser in hand
-    none_in_hand : (c t : ℕ) (r : Runner) (hand : Option Hand) → c < 4 → who' c t ≡ used_by r hand → sync_in hand ≡ None
+    none_in_hand : (c t : ℕ) (r : Runner) (hand : Option Acquired) → c < 4 → who' c t ≡ used_by r hand → sync_in hand ≡ None
     none_in_hand c t r hand lt e = by (sync_in hand) refl
       where
         by : (o : Option ℕ) → sync_in hand ≡ o → o ≡ None
@@ -175,7 +175,7 @@ module _ (g : Setting) (who : Roles) (is : IsImageOf g who) where
         by (Some n) f = absurd (none_taken n 7 ((st.used c (set_on g who is c) (set_core_at c lt)).owned t n r hand e (inr f)))
 
     -- Each thread that is used is a root's.
-    module _ (c t : ℕ) (lt : c < 4) (r : Runner) (hand : Option Hand) (e : who' c t ≡ used_by r hand) where
+    module _ (c t : ℕ) (lt : c < 4) (r : Runner) (hand : Option Acquired) (e : who' c t ≡ used_by r hand) where
       stands : Stands g false (set_on g who is c) x.state (set_life c t) x.actions (used_by r hand)
       stands = subst (Stands g false (set_on g who is c) x.state (set_life c t) x.actions) e (st.threads c t (set_on g who is c) (set_core_at c lt))
 
@@ -194,7 +194,7 @@ module _ (g : Setting) (who : Roles) (is : IsImageOf g who) where
       used : who' c t ≢ unused
       used f = let both : used_by r hand ≡ unused = sym e ∙ f in cc
 
-      root_runs_so : (life : Life) → life.steps ≡ 0 → (r0 : Runner) (old : Option Hand) → RunsRoot g who is c t r0 old → Stands g false (boot_on c) x.state life x.actions (used_by r hand)
+      root_runs_so : (life : Life) → life.steps ≡ 0 → (r0 : Runner) (old : Option Acquired) → RunsRoot g who is c t r0 old → Stands g false (boot_on c) x.state life x.actions (used_by r hand)
       root_runs_so life none r0 old k =
           let own = own_thread_of g r false hand (set_on g who is c) x.state (set_life c t) x.actions stands in
           let at_home : who r0.core r0.thread ≡ used_by r0 None = ap (λ d. who d r0.thread) k.core ∙ ap (who c) k.thread ∙ k.runs_it in

@@ -20,7 +20,7 @@ use Rattle.xs_instr.specs.Rows.{local_of, local_row, put_local, row}
 use Rattle.xs_instr.specs.Slot.{instr_at, is_waiteu}
 use Rattle.xl_expr.proofs.Lists.{get_set_same, get_set_other}
 use Rattle.xl_expr.proofs.ResourceParts.{others_same, own_same, own_then}
-use Rattle.xl_par.specs.Hands.{Hand, IsAmong, unused_in}
+use Rattle.xl_par.specs.Acquired.{Acquired, IsAmong, unused_in}
 use Rattle.xr_simulation.specs.Roles.{Role, got_by, unused, used_by}
 use Rattle.xr_simulation.specs.Runners.{IsMine, Setting, Runner, home}
 use Rattle.xr_simulation.specs.ThreadViews.{IsStable, LeadsIn, Rely, SpareFor, ThreadView, after, held_in, keeps, running, sync_in}
@@ -107,7 +107,7 @@ module _ (g : Setting) (r : Runner) where
   abbrev pub at_spot : CoreState → ℕ → Regs → CoreState
   at_spot a pc regs = record a { threads = slice_set a.threads r.thread (running r.tie pc regs) }
 
-  spare_moved : (hand : Option Hand) (a : CoreState) (pc pc' : ℕ) (regs regs' : Regs) → slice_get a.threads r.thread ≡ Some (running r.tie pc regs) → SpareFor hand a → SpareFor hand (at_spot a pc' regs')
+  spare_moved : (hand : Option Acquired) (a : CoreState) (pc pc' : ℕ) (regs regs' : Regs) → slice_get a.threads r.thread ≡ Some (running r.tie pc regs) → SpareFor hand a → SpareFor hand (at_spot a pc' regs')
   spare_moved None a pc pc' regs regs' here s = tt
   spare_moved (Some hand) a pc pc' regs regs' here s =
       let th = running r.tie pc regs in

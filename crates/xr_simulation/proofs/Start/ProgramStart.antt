@@ -14,7 +14,7 @@ use Rattle.xc_meaning.specs.States.Branches.{Branch, runs}
 use Rattle.xc_meaning.specs.States.Channels.{Side}
 use Rattle.xc_meaning.specs.States.Items.{ends, todo}
 use Rattle.xl_image.specs.Images.{roots_on, thread_of}
-use Rattle.xl_par.specs.Hands.{Hand, IsAmong}
+use Rattle.xl_par.specs.Acquired.{Acquired, IsAmong}
 use Rattle.xl_plan.specs.Layout.{temporary_of}
 use Rattle.xr_match.specs.Meanings.{root_among}
 use Rattle.xr_simulation.specs.Images.{IsImageOf, IsRoot, IsRootRole}
@@ -88,7 +88,7 @@ variable_length (x ∷ variables) (suc v) = variable_length variables v
 -- Who runs the roots.
 module _ (g : Setting) (who : Roles) (is : IsImageOf g who) where
   -- a thread that is used is a root's, with nothing in hand
-  pub record RunsRoot (c t : ℕ) (r : Runner) (hand : Option Hand) : Type 0 where
+  pub record RunsRoot (c t : ℕ) (r : Runner) (hand : Option Acquired) : Type 0 where
     pub none : hand ≡ None
     pub runs_it : who c t ≡ used_by r None
     pub root : kernel.Root
@@ -96,18 +96,18 @@ module _ (g : Setting) (who : Roles) (is : IsImageOf g who) where
     pub core : r.core ≡ c
     pub thread : r.thread ≡ t
 
-  root_role : (c t : ℕ) (r : Runner) (hand : Option Hand) → who c t ≡ used_by r hand → IsRootRole g (used_by r hand) → RunsRoot c t r hand
+  root_role : (c t : ℕ) (r : Runner) (hand : Option Acquired) → who c t ≡ used_by r hand → IsRootRole g (used_by r hand) → RunsRoot c t r hand
   root_role c t r None e h = record { none = refl; runs_it = e; root = h.0; is_root = h.1; core = is.core c t r e; thread = is.thread c t r e }
   root_role c t r (Some hand) e h = absurd h
 
-  pub root_of : (c t : ℕ) (r : Runner) (hand : Option Hand) → who c t ≡ used_by r hand → RunsRoot c t r hand
+  pub root_of : (c t : ℕ) (r : Runner) (hand : Option Acquired) → who c t ≡ used_by r hand → RunsRoot c t r hand
   root_of c t r hand e = root_role c t r hand e (subst (IsRootRole g) e (is.roles c t))
 
   -- no thread was got
   pub none_got : (c u t : ℕ) → who c u ≡ got_by t → ⊥
   none_got c u t e = subst (IsRootRole g) e (is.roles c u)
 
-  pub on_four : (c t : ℕ) (r : Runner) (hand : Option Hand) → who c t ≡ used_by r hand → c < 4
+  pub on_four : (c t : ℕ) (r : Runner) (hand : Option Acquired) → who c t ≡ used_by r hand → c < 4
   on_four c t r hand e =
       let h = root_of c t r hand e in
       let lt = is.placed r.branch h.root h.is_root.known in
@@ -132,7 +132,7 @@ module _ (g : Setting) (who : Roles) (is : IsImageOf g who) where
       (λ (there : IsAmong (branches_of ps) b). absurd (subst (λ l. IsAmong (branches_of l) b) alone there))
       m
 
-  pub owns_none : (c t n : ℕ) (r : Runner) (hand : Option Hand) → who c t ≡ used_by r hand → Owns r hand n → ⊥
+  pub owns_none : (c t n : ℕ) (r : Runner) (hand : Option Acquired) → who c t ≡ used_by r hand → Owns r hand n → ⊥
   owns_none c t n r hand e owns =
       let h = root_of c t r hand e in
       ⊎_elim

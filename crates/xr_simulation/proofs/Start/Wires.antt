@@ -9,7 +9,7 @@ use Rattle.xs_instr.specs.Machine.{boot, boot_end, parts_in}
 use Rattle.xc_kernel.specs.declared.kernel.Chan.{Chan}
 use Rattle.xc_meaning.specs.Runs.{empty_inboxes, kernel_start}
 use Rattle.xc_meaning.specs.States.Channels.{Inboxes, Side, first, no_parcels, parcels_at, second}
-use Rattle.xl_par.specs.Hands.{Hand}
+use Rattle.xl_par.specs.Acquired.{Acquired}
 use Rattle.xr_match.specs.Sides.{two_sided}
 use Rattle.xr_simulation.specs.Images.{IsImageOf}
 use Rattle.xr_simulation.specs.Roles.{Roles, used_by}
@@ -50,10 +50,10 @@ module _ (g : Setting) (who : Roles) (is : IsImageOf g who) where
   boxes = (kernel_start g.program).inboxes
 
   -- no thread is inside a transfer
-  pub none_inside : (core thread : ℕ) (r : Runner) (hand : Option Hand) → who core thread ≡ used_by r hand → r.transfer ≡ None
+  pub none_inside : (core thread : ℕ) (r : Runner) (hand : Option Acquired) → who core thread ≡ used_by r hand → r.transfer ≡ None
   none_inside core thread r hand runs = (root_of g who is core thread r hand runs).is_root.no_transfer
 
-  pub none_begun : (core thread : ℕ) (r : Runner) (hand : Option Hand) (transfer : Transfer) → who core thread ≡ used_by r hand → r.transfer ≡ Some transfer → ⊥
+  pub none_begun : (core thread : ℕ) (r : Runner) (hand : Option Acquired) (transfer : Transfer) → who core thread ≡ used_by r hand → r.transfer ≡ Some transfer → ⊥
   none_begun core thread r hand transfer runs is_in = none_is_some transfer (sym (none_inside core thread r hand runs) ∙ is_in)
 
   none_transfers : (core thread c : ℕ) (side : Side) → IsTransferring who core thread c side → ⊥

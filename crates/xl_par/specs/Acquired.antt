@@ -18,20 +18,20 @@ IsAmong [] u = ⊥
 IsAmong (v ∷ vs) u = (u ≡ v) ⊎ IsAmong vs u
 
 -- what a thread has got for a `par`, a synchroniser and threads, the last one first; and how many threads it lacks
-pub record Hand : Type 0 where
+pub record Acquired : Type 0 where
   pub sync : Option ℕ
   pub threads : List ℕ
   pub lacks : ℕ
 
 -- nothing yet
-abbrev pub empty_hand : (lacks : ℕ) → Hand
-empty_hand lacks = record { sync = None; threads = []; lacks = lacks }
+abbrev pub nothing_acquired : (lacks : ℕ) → Acquired
+nothing_acquired lacks = record { sync = None; threads = []; lacks = lacks }
 
 -- with a synchroniser, or with one thread more
-abbrev pub with_sync : Hand → ℕ → Hand
+abbrev pub with_sync : Acquired → ℕ → Acquired
 with_sync hand n = record hand { sync = Some n }
 
-abbrev pub with_thread_got : Hand → ℕ → Hand
+abbrev pub with_thread_got : Acquired → ℕ → Acquired
 with_thread_got hand u = record { sync = hand.sync; threads = u ∷ hand.threads; lacks = hand.lacks - 1 }
 
 -- how many threads are unused
@@ -45,7 +45,7 @@ unused_in (x ∷ xs) = one_if (is_unused x.mode) + unused_in xs
 
 -- A core has what a thread lacks, at least: as many unused threads, and a free synchroniser where it has none. An unused thread takes no
 -- events, no thread is tied to a free synchroniser, and there are no more of both than a core has.
-pub record HasSpare (hand : Hand) (core : CoreState) : Type 0 where
+pub record HasSpare (hand : Acquired) (core : CoreState) : Type 0 where
   pub threads : hand.lacks ≤ unused_in core.threads
   pub sync : hand.sync ≡ None → (n : ℕ) × (slice_get core.syncs n ≡ Some false)
   pub few_threads : length core.threads ≤ 8
@@ -55,7 +55,7 @@ pub record HasSpare (hand : Hand) (core : CoreState) : Type 0 where
 
 -- The rely: what others leave as it is, the thread, the words of `relied`, and what it has got, to which they tie nothing; and there is
 -- still what it lacks. This last is a premise on each state between the steps, and not on the first alone.
-pub record KeptHand (relied : ℕ → Bool) (t : ℕ) (hand : Hand) (a b : CoreState) : Type 0 where
+pub record KeepsAcquired (relied : ℕ → Bool) (t : ℕ) (hand : Acquired) (a b : CoreState) : Type 0 where
   pub own : Kept relied t a b
   pub sync : (n : ℕ) → hand.sync ≡ Some n → slice_get b.syncs n ≡ slice_get a.syncs n
   pub held : (u : ℕ) → IsAmong hand.threads u → slice_get b.threads u ≡ slice_get a.threads u
@@ -64,7 +64,7 @@ pub record KeptHand (relied : ℕ → Bool) (t : ℕ) (hand : Hand) (a b : CoreS
 
 -- what a step changes: the thread's pc and registers alone, with all words as they are; or it gets the first free synchroniser; or the
 -- first unused thread, which then waits; or a waiting thread that it has got is prepared
-pub data Change (t : ℕ) (thread : Thread) (hand hand' : Hand) (a b : CoreState) : Type 0 where
+pub data Change (t : ℕ) (thread : Thread) (hand hand' : Acquired) (a b : CoreState) : Type 0 where
   own_only : (after : Local) →
       ((w : ℕ) → slice_get after.words w ≡ slice_get a.words w) →
       b ≡ put_local a t thread after → hand' ≡ hand → Change t thread hand hand' a b
@@ -82,16 +82,16 @@ pub data Change (t : ℕ) (thread : Thread) (hand hand' : Hand) (a b : CoreState
       hand' ≡ hand → Change t thread hand hand' a b
 
 -- the guarantee: a step of thread t that makes one of these changes, and no record
-pub record HandStep (home : Home) (t : ℕ) (hand hand' : Hand) (a b : CoreState) : Type 0 where
+pub record AcquiringStep (home : Home) (t : ℕ) (hand hand' : Acquired) (a b : CoreState) : Type 0 where
   pub thread : Thread
   pub here : slice_get a.threads t ≡ Some thread
   pub made : slot home a t ≡ makes b
   pub change : Change t thread hand hand' a b
 
 -- at most n own steps of thread t, whatever happens between them, lead to where Q holds of what it has got
-abbrev pub WithinHand : Home → (ℕ → Bool) → (t : ℕ) → (Hand → CoreState → Type 0) → ℕ → Hand → CoreState → Type 0
-WithinHand home relied t Q zero hand a = Q hand a
-WithinHand home relied t Q (suc n) hand a =
+abbrev pub WithinAcquiring : Home → (ℕ → Bool) → (t : ℕ) → (Acquired → CoreState → Type 0) → ℕ → Acquired → CoreState → Type 0
+WithinAcquiring home relied t Q zero hand a = Q hand a
+WithinAcquiring home relied t Q (suc n) hand a =
     Q hand a
-    ⊎ ((b : CoreState) → KeptHand relied t hand a b →
-    (hand' : Hand) × (d : CoreState) × HandStep home t hand hand' b d × WithinHand home relied t Q n hand' d)
+    ⊎ ((b : CoreState) → KeepsAcquired relied t hand a b →
+    (hand' : Acquired) × (d : CoreState) × AcquiringStep home t hand hand' b d × WithinAcquiring home relied t Q n hand' d)
