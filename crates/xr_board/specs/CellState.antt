@@ -18,8 +18,8 @@ pub record CellState : Type 0 where
   pub from3 : TwoPlaces
 
 -- nothing has come, and the stop mark isn't set
-abbrev pub fresh : Part → CellState
-fresh part = record { part = part; stopped = false; from0 = empty; from1 = empty; from2 = empty; from3 = empty }
+abbrev pub new_cell : Part → CellState
+new_cell part = record { part = part; stopped = false; from0 = empty; from1 = empty; from2 = empty; from3 = empty }
 
 -- core i's part of the run, and batches of the run to it
 pub record IsCell (L : Image) (s : Stim) (n i : ℕ) (c : CellState) : Type 0 where

@@ -13,7 +13,7 @@ use crate::parts::Parts;
 use std::alloc::Global;
 use std::marker::Brand;
 use std::mem;
-use xr_windows::{Batch, Needs, Part, Run, RunName, told};
+use xr_windows::{Batch, Needs, Part, Run, RunName, merged_run};
 use xs_instr::{Image, Stim};
 use xw_words::{List, Memory};
 
@@ -61,7 +61,7 @@ fn run_parts<U: RunName>(alloc: Global, ticks: u32, parts: &mut Parts) -> Result
         fourth,
     } = parts;
     run_cores::<U>(alloc, ticks, first, second, third, fourth)?;
-    told::<U>(alloc, first, second, third, fourth)
+    merged_run::<U>(alloc, first, second, third, fourth)
 }
 
 /// All windows of the four cores, by number, of which none has run one. The one error is want of memory.

@@ -45,7 +45,7 @@ impl<U: RunName, C: CoreName> Model for Cell<U, C> {
 }
 
 impl<U: RunName, C: CoreName> Cell<U, C> {
-    ghost use Rattle.xr_board.specs.CellState.{IsAccepted, IsCell, accepted, fresh, lacking_in};
+    ghost use Rattle.xr_board.specs.CellState.{IsAccepted, IsCell, accepted, new_cell, lacking_in};
     ghost use Rattle.xr_board.specs.Short.{short_in};
     ghost use Rattle.xr_board.specs.Turns.{CanTry, IsTurn};
     ghost use Rattle.xr_windows.specs.Parts.{IsPartOf};
@@ -55,7 +55,7 @@ impl<U: RunName, C: CoreName> Cell<U, C> {
         requires part { IsPartOf U.listing U.stimulus U.ticks part }
         requires number { part.home.number ≡ C.number }
         requires start { part.ran ≡ 0 }
-        ensures { result ≡ fresh part }
+        ensures { result ≡ new_cell part }
     {
         Cell {
             part,

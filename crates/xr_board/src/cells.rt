@@ -8,7 +8,7 @@ ghost use Rattle.xr_windows.specs.Telling.{IsLockstep};
 use crate::cell::Cell;
 use crate::core_name::{Core0, Core1, Core2, Core3};
 use std::alloc::Global;
-use xr_windows::{Run, RunName, told};
+use xr_windows::{Run, RunName, merged_run};
 use xw_words::Memory;
 
 /// Why a run isn't gathered.
@@ -141,7 +141,7 @@ fn all_told<U: RunName>(
     second.is_cell();
     third.is_cell();
     fourth.is_cell();
-    told::<U>(
+    merged_run::<U>(
         alloc,
         first.part(),
         second.part(),

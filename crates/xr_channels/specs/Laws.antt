@@ -6,8 +6,8 @@ use Rattle.xs_instr.specs.declared.state.CoreState.{CoreState}
 use Rattle.xs_instr.specs.Machine.{boot}
 use Rattle.xs_instr.specs.Valid.{Valid}
 use Rattle.xc_meaning.specs.States.Channels.{Side, Inboxes, no_parcels, parcels_at}
-use Rattle.xr_channels.specs.Phases.{between, spot}
-use Rattle.xr_channels.specs.Wires.{Links, tokens_at, place, Ghosts, start_ghosts, Wires, IsWired}
+use Rattle.xr_channels.specs.Phases.{between, side_state}
+use Rattle.xr_channels.specs.Channels.{Links, tokens_at, end_of_side, Ghosts, start_ghosts, Channels, IsWired}
 use Rattle.xr_channels.specs.Balance.{Local}
 
 -- Where a machine and a program start, with an inbox for each channel and nothing in any, nothing stands between any sides.
@@ -16,4 +16,4 @@ ChannelsBegin = (L : Image) (streaming : ℕ → Bool) (inboxes : List Inboxes) 
 
 -- A side that is outside and in no piece has an empty inbox where no token is at its end: no case of a select on it is ready.
 abbrev pub NoneReady : Type 0
-NoneReady = (pairs : List Pair) → IsWired pairs → (cores : List CoreState) (links : Links) (inboxes : List Inboxes) (g : Ghosts) → Wires pairs cores links inboxes g → (k : ℕ) (p : Pair) (side : Side) → slice_get pairs k ≡ Some p → g.spots k side ≡ spot between false → tokens_at cores (place p side).core (place p side).end ≡ [] → parcels_at (slice_index_or inboxes k no_parcels) side ≡ []
+NoneReady = (pairs : List Pair) → IsWired pairs → (cores : List CoreState) (links : Links) (inboxes : List Inboxes) (g : Ghosts) → Channels pairs cores links inboxes g → (k : ℕ) (p : Pair) (side : Side) → slice_get pairs k ≡ Some p → g.side_states k side ≡ side_state between false → tokens_at cores (end_of_side p side).core (end_of_side p side).end ≡ [] → parcels_at (slice_index_or inboxes k no_parcels) side ≡ []

@@ -1,5 +1,5 @@
 pub mod Phases
-pub mod Fresh
-pub mod Wires
+pub mod ChannelRel
+pub mod Channels
 pub mod Balance
 pub mod Laws

@@ -57,12 +57,12 @@ pub data Phase : Type 0 where
   streams : Phase
 
 -- a side: where it stands, and whether its branch is inside a transaction on the channel; a side of a streaming channel always is
-pub record Spot : Type 0 where
+pub record SideState : Type 0 where
   pub phase : Phase
   pub inside : Bool
 
-abbrev pub spot : Phase → Bool → Spot
-spot phase inside = record { phase = phase; inside = inside }
+abbrev pub side_state : Phase → Bool → SideState
+side_state phase inside = record { phase = phase; inside = inside }
 
 -- the tokens of a parcel
 abbrev pub encode : Parcel → List Token
@@ -118,16 +118,16 @@ asked was_closed = []
 asked streams = []
 
 -- whether the answer leads into a transaction, or out of it
-abbrev pub turns : Phase → Bool
-turns between = false
-turns (sends_end v) = false
-turns (awaits_ack (offers v)) = false
-turns (awaits_ack opens) = true
-turns (awaits_ack closes) = true
-turns checks_end = false
-turns sends_ack = false
-turns was_closed = false
-turns streams = false
+abbrev pub switches_mode : Phase → Bool
+switches_mode between = false
+switches_mode (sends_end v) = false
+switches_mode (awaits_ack (offers v)) = false
+switches_mode (awaits_ack opens) = true
+switches_mode (awaits_ack closes) = true
+switches_mode checks_end = false
+switches_mode sends_ack = false
+switches_mode was_closed = false
+switches_mode streams = false
 
 -- whether what a side reads next is inside a transaction
 abbrev pub reads_by : Phase → Bool → Bool
@@ -142,7 +142,7 @@ reads_by was_closed inside = inside
 reads_by streams inside = inside
 
 -- the same of a spot
-abbrev pub reads : Spot → Bool
+abbrev pub reads : SideState → Bool
 reads s = reads_by s.phase s.inside
 
 -- words of a transaction or a stream, and nothing else
@@ -164,17 +164,17 @@ LateBy was_closed inside late = (inside ≡ true) × (late ≡ [])
 LateBy streams inside late = (inside ≡ true) × AreWords late
 
 -- Parcels lead from outside or inside a transaction to outside or inside: an offer is put outside only, a word inside only, an opening
--- leads in, a closing leads out, and `turns` says of an answer whether it leads to the other of the two.
-abbrev pub Path : (turns from : Bool) → List Parcel → (to : Bool) → Type 0
-Path turns from [] to = from ≡ to
-Path turns false (offer v ∷ ps) to = Path turns false ps to
-Path turns true (offer v ∷ ps) to = ⊥
-Path turns false (opening ∷ ps) to = Path turns true ps to
-Path turns true (opening ∷ ps) to = ⊥
-Path turns false (word v ∷ ps) to = ⊥
-Path turns true (word v ∷ ps) to = Path turns true ps to
-Path turns false (closing ∷ ps) to = ⊥
-Path turns true (closing ∷ ps) to = Path turns false ps to
+-- leads in, a closing leads out, and `switches_mode` says of an answer whether it leads to the other of the two.
+abbrev pub Path : (switches_mode from : Bool) → List Parcel → (to : Bool) → Type 0
+Path switches_mode from [] to = from ≡ to
+Path switches_mode false (offer v ∷ ps) to = Path switches_mode false ps to
+Path switches_mode true (offer v ∷ ps) to = ⊥
+Path switches_mode false (opening ∷ ps) to = Path switches_mode true ps to
+Path switches_mode true (opening ∷ ps) to = ⊥
+Path switches_mode false (word v ∷ ps) to = ⊥
+Path switches_mode true (word v ∷ ps) to = Path switches_mode true ps to
+Path switches_mode false (closing ∷ ps) to = ⊥
+Path switches_mode true (closing ∷ ps) to = Path switches_mode false ps to
 Path false from (taken ∷ ps) to = Path false from ps to
 Path true from (taken ∷ ps) to = Path true (not from) ps to
 
@@ -199,14 +199,14 @@ pub data Asked (phase : Phase) (there here : List Parcel) : Type 0 where
   is_answered : questions there ≡ [] → answers here ≡ length (asked phase) → Asked phase there here
 
 -- One direction of a channel: the tokens at the receiver's end, those on the link to it, the receiver's inbox, and what is to be put there.
-pub record Line : Type 0 where
+pub record Direction : Type 0 where
   pub buffer : List Token
   pub link : List Token
   pub inbox : List Parcel
   pub late : List Parcel
 
 -- What is under way from side s to side r.
-pub record Way (s r : Spot) (l : Line) : Type 0 where
+pub record Transit (s r : SideState) (l : Direction) : Type 0 where
   -- the tokens of parcels in the inbox that are still to come
   pub more : List Token
   -- On the link, and still to be sent, are these and then the tokens of what is late.
@@ -214,13 +214,13 @@ pub record Way (s r : Spot) (l : Line) : Type 0 where
   -- What was taken of the first parcel, what stands at the end and what is still to come are the tokens of the inbox.
   pub come : ahead r.phase ++ (l.buffer ++ more) ≡ unread r.phase ++ encodes l.inbox
   -- The parcels lead from where the receiver reads to where the sender stands.
-  pub path : Path (turns r.phase) (reads r) l.inbox s.inside
+  pub path : Path (switches_mode r.phase) (reads r) l.inbox s.inside
   -- What is late is what a sender that stands there may still put.
   pub late : LateBy s.phase s.inside l.late
 
 -- What stands between two sides of a channel: the ways to and fro, and the question of each.
-pub record Talk (s r : Spot) (go come : Line) : Type 0 where
-  pub outward : Way s r go
-  pub homeward : Way r s come
+pub record TransitRel (s r : SideState) (go come : Direction) : Type 0 where
+  pub outward : Transit s r go
+  pub homeward : Transit r s come
   pub mine : Asked s.phase (go.inbox ++ go.late) come.inbox
   pub theirs : Asked r.phase (come.inbox ++ come.late) go.inbox

@@ -13,7 +13,7 @@ use Rattle.xr_match.specs.Implements.{Agree, AgreeNow, AgreeWholly}
 use Rattle.xr_match.specs.Lives.{Watched, machine_of, watched_after, watched_start}
 use Rattle.xr_match.specs.Matching.{AgreeQuietly, CountsAreSteps, LivesAreBounded, MatchAlong, MatchingRun, RunsMatch, RunsMatchWholly, steps_by}
 use Rattle.xr_match.specs.Meanings.{family_in, of_text, of_worlds}
-use Rattle.xr_match.specs.Sources.{Told, actions_by, told_of, told_start}
+use Rattle.xr_match.specs.Sources.{Counted, actions_by, counted_of, counted_start}
 use Rattle.xr_match.specs.Systems.{System, SomeIs, IsRun, concat, leads, Along, Refines}
 use Rattle.xr_match.proofs.Counted.{counted_steps, uncounted}
 use Rattle.xr_match.proofs.Through.{leads_both, there_get, there_put}
@@ -23,9 +23,9 @@ use Rattle.xr_match.proofs.RunsBeside.{same_run}
 pub counts_are_steps : CountsAreSteps
 counts_are_steps K s start bound actions z e f =
     let led : acts_all K s (Some start) actions ≡ Some z.state =
-    same_run K s start bound actions start ∙ uncounted (of_worlds K start bound) s actions (told_start (of_worlds K start bound)) z e in
-    let counted = counted_steps K s start bound actions (told_start (of_worlds K start bound)) z.state led in
-    ap (λ (x : Told (of_worlds K start bound)). x.actions f) (same_Some _ _ (sym e ∙ counted.1)) ∙ (counted.3 f ∙ zero-add _)
+    same_run K s start bound actions start ∙ uncounted (of_worlds K start bound) s actions (counted_start (of_worlds K start bound)) z e in
+    let counted = counted_steps K s start bound actions (counted_start (of_worlds K start bound)) z.state led in
+    ap (λ (x : Counted (of_worlds K start bound)). x.actions f) (same_Some _ _ (sym e ∙ counted.1)) ∙ (counted.3 f ∙ zero-add _)
 
 -- a machine's run, with the lives of its threads
 module _ (L : Image) (s : Stim) where
@@ -65,16 +65,16 @@ module _ (A B : System) (R : A.State → B.State → Type 0) where
 
 module _ (L : Image) (P : List tree.Item) (s : Stim) where
   abbrev Text : System
-  Text = told_of (of_text P) s
+  Text = counted_of (of_text P) s
 
   -- where actions lead, by one with counts
-  acted : (actions : List Action) (x z : Told (of_text P)) → leads Text x actions ≡ Some z → acts_all (copy_of P) s (Some x.state) actions ≡ Some z.state
+  acted : (actions : List Action) (x z : Counted (of_text P)) → leads Text x actions ≡ Some z → acts_all (copy_of P) s (Some x.state) actions ≡ Some z.state
   acted actions x z e =
       same_run (copy_of P) s (program_start P) (of_text P).bound actions x.state ∙ uncounted (of_text P) s actions x z e
 
-  module _ (R : Watched → Told (of_text P) → Type 0) (S : Machine → World → Type 0)
-      (seen : (w : Watched) (x : Told (of_text P)) → R w x → S w.machine x.state) where
-    along : (events : List Event) (pieces : List (List Action)) (w : Watched) (x : Told (of_text P)) →
+  module _ (R : Watched → Counted (of_text P) → Type 0) (S : Machine → World → Type 0)
+      (seen : (w : Watched) (x : Counted (of_text P)) → R w x → S w.machine x.state) where
+    along : (events : List Event) (pieces : List (List Action)) (w : Watched) (x : Counted (of_text P)) →
         Along (machine_of L s) Text R w x events pieces → MatchAlong S L P s w.machine x.state events pieces
     along [] [] w x h = seen w x h
     along [] (p ∷ ps) w x h = absurd h
@@ -95,8 +95,8 @@ module _ (L : Image) (P : List tree.Item) (s : Stim) where
       pub run : MatchingRun S L P s events m
       pub lives : Watched
       pub lived : leads (machine_of L s) (watched_start L) events ≡ Some lives
-      pub counted : Told (of_text P)
-      pub counts : leads Text (told_start (of_text P)) (run.first ++ concat run.pieces) ≡ Some counted
+      pub counted : Counted (of_text P)
+      pub counts : leads Text (counted_start (of_text P)) (run.first ++ concat run.pieces) ≡ Some counted
       pub at : run.state ≡ counted.state
       pub stand : R lives counted
 
@@ -105,17 +105,17 @@ module _ (L : Image) (P : List tree.Item) (s : Stim) where
         let w = with_lives L s events (watched_start L) m e in
         let is : IsRun (machine_of L s) events = subst (λ o. SomeIs o (λ x. Unit {0})) (sym w.1) tt in
         let b = refines.by events is in
-        let x = there_get (λ y. Along (machine_of L s) Text R (watched_start L) y events b.pieces) (leads Text (told_start (of_text P)) b.first) b.along in
+        let x = there_get (λ y. Along (machine_of L s) Text R (watched_start L) y events b.pieces) (leads Text (counted_start (of_text P)) b.first) b.along in
         let z = along_to_end (machine_of L s) Text R events b.pieces (watched_start L) w.0 x.0 w.1 x.2 in
-        let whole = leads_both Text b.first (concat b.pieces) (told_start (of_text P)) x.0 x.1 ∙ z.1 in
+        let whole = leads_both Text b.first (concat b.pieces) (counted_start (of_text P)) x.0 x.1 ∙ z.1 in
         record {
           run = record {
             first = b.first;
             pieces = b.pieces;
             along = there_put (λ y. MatchAlong S L P s (boot L) y events b.pieces) (program_run P s b.first) x.0.state
-                (acted b.first (told_start (of_text P)) x.0 x.1) (along events b.pieces (watched_start L) x.0 x.2);
+                (acted b.first (counted_start (of_text P)) x.0 x.1) (along events b.pieces (watched_start L) x.0 x.2);
             state = z.0.state;
-            is_run = acted (b.first ++ concat b.pieces) (told_start (of_text P)) z.0 whole;
+            is_run = acted (b.first ++ concat b.pieces) (counted_start (of_text P)) z.0 whole;
             last = subst (λ n. S n z.0.state) w.2 (seen w.0 z.0 z.2);
           };
           lives = w.0;
@@ -126,14 +126,14 @@ module _ (L : Image) (P : List tree.Item) (s : Stim) where
           stand = z.2;
         }
 
-  counted_so : (actions : List Action) (z : Told (of_text P)) → leads Text (told_start (of_text P)) actions ≡ Some z →
+  counted_so : (actions : List Action) (z : Counted (of_text P)) → leads Text (counted_start (of_text P)) actions ≡ Some z →
       (o : Option ℕ) → actions_by (of_text P) z o ≡ steps_by P s actions o
   counted_so actions z e None = refl
   counted_so actions z e (Some f) = counts_are_steps (copy_of P) s (program_start P) (of_text P).bound actions z e f
 
   -- the bound on the lives, by what is counted beside the run
-  bounded_by : (events : List Event) (actions : List Action) (w : Watched) (z : Told (of_text P)) →
-      leads (machine_of L s) (watched_start L) events ≡ Some w → leads Text (told_start (of_text P)) actions ≡ Some z →
+  bounded_by : (events : List Event) (actions : List Action) (w : Watched) (z : Counted (of_text P)) →
+      leads (machine_of L s) (watched_start L) events ≡ Some w → leads Text (counted_start (of_text P)) actions ≡ Some z →
       AgreeWholly L (of_text P) s w z → LivesAreBounded L P s events actions z.state
   bounded_by events actions w z lived counts wholly v lived' core thread = subst Bounded (same_Some w v (sym lived ∙ lived')) by_counts
     where
@@ -162,5 +162,5 @@ runs_match_wholly L P s implements good events m e =
           (bounded_by L P s events (r.run.first ++ concat r.run.pieces) r.lives r.counted r.lived r.counts r.stand);
     }
   where
-    seen_wholly : (w : Watched) (x : Told (of_text P)) → AgreeWholly L (of_text P) s w x → AgreeQuietly L P s w.machine x.state
+    seen_wholly : (w : Watched) (x : Counted (of_text P)) → AgreeWholly L (of_text P) s w x → AgreeQuietly L P s w.machine x.state
     seen_wholly w x h = record { agree = h.agree; quiet = h.quiet }

@@ -22,22 +22,22 @@ use Rattle.xc_meaning.proofs.Simulation.Theorem.{text_follows_closely}
 use Rattle.xr_match.specs.Implements.{AgreeNow, AgreeWholly, QuietAgree, StepsAreBounded}
 use Rattle.xr_match.specs.Lives.{Family, Watched, machine_of}
 use Rattle.xr_match.specs.Meanings.{HasParcel, family_in, of_kernel, of_text, KernelsCarry, KernelsCarryWholly}
-use Rattle.xr_match.specs.Sources.{Told, actions_by, actions_of, told_of}
+use Rattle.xr_match.specs.Sources.{Counted, actions_by, actions_of, counted_of}
 use Rattle.xr_match.proofs.Births.{family_alike}
 use Rattle.xr_match.proofs.Through.{refines_through}
 use Rattle.xr_match.proofs.RunsBeside.{IsOfKernel, IsOfText, refines_so, same_run}
 
 module _ (P : List tree.Item) (K : kernel.Kernel) (s : Stim) where
-  abbrev Alike : Told (of_kernel K) → Told (of_text P) → Type 0
+  abbrev Alike : Counted (of_kernel K) → Counted (of_text P) → Type 0
   Alike x y = AreAlike x.state y.state
 
   -- alike, quiet together, and with the actions of each family in the kernel bounded by those in the text
-  record Close (x : Told (of_kernel K)) (y : Told (of_text P)) : Type 0 where
+  record Close (x : Counted (of_kernel K)) (y : Counted (of_text P)) : Type 0 where
     pub alike : Alike x y
     pub quiet : (cores : List ℕ) → QuietBehind K s x.state cores ↔ QuietBehind (copy_of P) s y.state cores
     pub bounded : (f : ℕ) → x.actions f + 1 ≤ 4 * (y.actions f + 1)
 
-  module _ (ms ns : List Action) (x : Told (of_kernel K)) (y : Told (of_text P)) (e : IsOfKernel P K s ms x) (f : IsOfText P K s ns y) where
+  module _ (ms ns : List Action) (x : Counted (of_kernel K)) (y : Counted (of_text P)) (e : IsOfKernel P K s ms x) (f : IsOfText P K s ns y) where
     -- of the states that such runs lead to
     same : (F : World → World → Type 0) (h : StandAlike P K s ms ns) → F h.of_kernel h.of_text → F x.state y.state
     same F h is =
@@ -65,7 +65,7 @@ module _ (P : List tree.Item) (K : kernel.Kernel) (s : Stim) where
         stand = ap (λ boxes. parcels_at (slice_index_or boxes h.channel no_parcels) side) (sym k.inboxes) ∙ h.stand;
       })
 
-  agree : (L : Image) (copies : Copies P K) (w : Watched) (x : Told (of_kernel K)) (y : Told (of_text P)) → AgreeNow L (of_kernel K) w x → Alike x y → AgreeNow L (of_text P) w y
+  agree : (L : Image) (copies : Copies P K) (w : Watched) (x : Counted (of_kernel K)) (y : Counted (of_text P)) → AgreeNow L (of_kernel K) w x → Alike x y → AgreeNow L (of_text P) w y
   agree L copies w x y a k = record {
     clocks = a.clocks ∙ k.clocks;
     trace = a.trace ∙ k.trace;
@@ -74,7 +74,7 @@ module _ (P : List tree.Item) (K : kernel.Kernel) (s : Stim) where
   }
 
   -- where the machine is quiet behind some ticks so is the kernel, and so is the text
-  agree_quiet : (L : Image) (w : Watched) (x : Told (of_kernel K)) (y : Told (of_text P)) → QuietAgree L (of_kernel K) s w.machine x.state → Close x y → QuietAgree L (of_text P) s w.machine y.state
+  agree_quiet : (L : Image) (w : Watched) (x : Counted (of_kernel K)) (y : Counted (of_text P)) → QuietAgree L (of_kernel K) s w.machine x.state → Close x y → QuietAgree L (of_text P) s w.machine y.state
   agree_quiet L w x y a k cores still later e =
       let behind = (k.quiet cores).0 (record { quiet = λ z f. a cores still z (sym (same_run K s (kernel_start K) (of_kernel K).bound (map clock cores) x.state) ∙ f) }) in
       behind.quiet later (same_run (copy_of P) s (program_start P) (of_text P).bound (map clock cores) y.state ∙ e)
@@ -84,7 +84,7 @@ module _ (P : List tree.Item) (K : kernel.Kernel) (s : Stim) where
   same_number copies x y k name = family_alike K x y k.births name ∙ ap (λ k. family_in k y name) copies.is_copy
 
   -- so its actions are bounded
-  actions_bounded : (copies : Copies P K) (x : Told (of_kernel K)) (y : Told (of_text P)) → Close x y → (family : Option Family) → actions_of (of_kernel K) x family + 1 ≤ 4 * (actions_of (of_text P) y family + 1)
+  actions_bounded : (copies : Copies P K) (x : Counted (of_kernel K)) (y : Counted (of_text P)) → Close x y → (family : Option Family) → actions_of (of_kernel K) x family + 1 ≤ 4 * (actions_of (of_text P) y family + 1)
   actions_bounded copies x y k None = omega arith
   actions_bounded copies x y k (Some name) =
       subst (λ o. actions_by (of_kernel K) x (family_in K x.state name) + 1 ≤ 4 * (actions_by (of_text P) y o + 1)) (same_number copies x.state y.state k.alike name) (by (family_in K x.state name))
@@ -93,13 +93,13 @@ module _ (P : List tree.Item) (K : kernel.Kernel) (s : Stim) where
       by None = omega arith
       by (Some f) = k.bounded f
 
-  agree_bounded : (copies : Copies P K) → 4 * kernel_bound K ≤ program_bound P → (w : Watched) (x : Told (of_kernel K)) (y : Told (of_text P)) → StepsAreBounded (of_kernel K) w x → Close x y → StepsAreBounded (of_text P) w y
+  agree_bounded : (copies : Copies P K) → 4 * kernel_bound K ≤ program_bound P → (w : Watched) (x : Counted (of_kernel K)) (y : Counted (of_text P)) → StepsAreBounded (of_kernel K) w x → Close x y → StepsAreBounded (of_text P) w y
   agree_bounded copies fits w x y a k core thread =
       let life = w.lives core thread in
       bound_carries (kernel_bound K) (program_bound P) (actions_of (of_kernel K) x life.family) (actions_of (of_text P) y life.family) life.steps
       fits (actions_bounded copies x y k life.family) (a core thread)
 
-  agree_wholly : (L : Image) (copies : Copies P K) → 4 * kernel_bound K ≤ program_bound P → (w : Watched) (x : Told (of_kernel K)) (y : Told (of_text P)) → AgreeWholly L (of_kernel K) s w x → Close x y → AgreeWholly L (of_text P) s w y
+  agree_wholly : (L : Image) (copies : Copies P K) → 4 * kernel_bound K ≤ program_bound P → (w : Watched) (x : Counted (of_kernel K)) (y : Counted (of_text P)) → AgreeWholly L (of_kernel K) s w x → Close x y → AgreeWholly L (of_text P) s w y
   agree_wholly L copies fits w x y a k = record {
     agree = agree L copies w x y a.agree k.alike;
     quiet = agree_quiet L w x y a.quiet k;
@@ -112,8 +112,8 @@ kernels_carry L P K named types typed copies of_K = record {
   by = λ s good.
       refines_through
       (machine_of L s)
-      (told_of (of_kernel K) s)
-      (told_of (of_text P) s)
+      (counted_of (of_kernel K) s)
+      (counted_of (of_text P) s)
       (AgreeNow L (of_kernel K))
       (Alike P K s)
       (AgreeNow L (of_text P))
@@ -128,8 +128,8 @@ kernels_carry_wholly L P K named types typed copies meet narrow of_K = record {
   by = λ s good.
       refines_through
       (machine_of L s)
-      (told_of (of_kernel K) s)
-      (told_of (of_text P) s)
+      (counted_of (of_kernel K) s)
+      (counted_of (of_text P) s)
       (AgreeWholly L (of_kernel K) s)
       (Close P K s)
       (AgreeWholly L (of_text P) s)

@@ -10,7 +10,7 @@ use Rattle.xs_instr.specs.Machine.{Machine, Step, Tick, Move, does, runs}
 use Rattle.xs_instr.specs.Valid.{IsGoodStim}
 use Rattle.xc_meaning.specs.States.Channels.{Side, first, second}
 use Rattle.xr_match.specs.Lives.{Watched, machine_of}
-use Rattle.xr_match.specs.Sources.{Source, Told, actions_of, allowed, told_of}
+use Rattle.xr_match.specs.Sources.{Source, Counted, actions_of, allowed, counted_of}
 use Rattle.xr_match.specs.Systems.{Refines}
 
 -- every root has ended
@@ -55,13 +55,13 @@ pub record Agree (L : Image) (P : Source) (m : Machine) (x : P.State) : Type 0 w
   pub arrivals : ArrivalsAgree L P m x
   pub ended : AllRootsEnded m.cores ↔ P.HasEnded x
 
-abbrev pub AgreeNow : Image → (P : Source) → Watched → Told P → Type 0
+abbrev pub AgreeNow : Image → (P : Source) → Watched → Counted P → Type 0
 AgreeNow L P w x = Agree L P w.machine x.state
 
 -- Under every good stimulus each run of the machine, whatever the order of its events, has a run of the program beside it, which is cut
 -- into a first piece and one piece for each event.
 pub record Implements (L : Image) (P : Source) : Type 0 where
-  pub by : (s : Stim) → IsGoodStim s → Refines (machine_of L s) (told_of P s) (AgreeNow L P)
+  pub by : (s : Stim) → IsGoodStim s → Refines (machine_of L s) (counted_of P s) (AgreeNow L P)
 
 -- What an image promises besides, once it promises all: that it waits only where the program does, and that it doesn't go on and on
 -- without the program.
@@ -83,15 +83,15 @@ QuietAgree L P s m x =
     (cores : List ℕ) → IsQuietBehind L s m cores → (y : P.State) → allowed P s x (map P.clock cores) ≡ Some y → P.IsQuiet s y
 
 -- no life has done too many steps for its family
-abbrev pub StepsAreBounded : (P : Source) → Watched → Told P → Type 0
+abbrev pub StepsAreBounded : (P : Source) → Watched → Counted P → Type 0
 StepsAreBounded P w x =
     (core thread : ℕ) → (w.lives core thread).steps ≤ P.bound * (actions_of P x (w.lives core thread).family + 1)
 
 -- all that is so at each moment
-pub record AgreeWholly (L : Image) (P : Source) (s : Stim) (w : Watched) (x : Told P) : Type 0 where
+pub record AgreeWholly (L : Image) (P : Source) (s : Stim) (w : Watched) (x : Counted P) : Type 0 where
   pub agree : AgreeNow L P w x
   pub quiet : QuietAgree L P s w.machine x.state
   pub bounded : StepsAreBounded P w x
 
 pub record ImplementsWholly (L : Image) (P : Source) : Type 0 where
-  pub by : (s : Stim) → IsGoodStim s → Refines (machine_of L s) (told_of P s) (AgreeWholly L P s)
+  pub by : (s : Stim) → IsGoodStim s → Refines (machine_of L s) (counted_of P s) (AgreeWholly L P s)

@@ -14,7 +14,7 @@ use Rattle.xc_meaning.specs.States.Worlds.{World, Action}
 use Rattle.xr_match.specs.Implements.{Agree, Implements, ImplementsWholly, QuietAgree}
 use Rattle.xr_match.specs.Lives.{Watched, machine_of, watched_start}
 use Rattle.xr_match.specs.Meanings.{family_in, of_text, of_worlds}
-use Rattle.xr_match.specs.Sources.{Told, told_of, told_start}
+use Rattle.xr_match.specs.Sources.{Counted, counted_of, counted_start}
 use Rattle.xr_match.specs.Systems.{SomeIs, concat, leads}
 
 -- The machine and the program stand in a relation now, and again behind each event and its piece of the program's run.
@@ -75,6 +75,6 @@ RunsMatchWholly =
 -- What is counted of a family beside a run is how many steps it does in the run.
 abbrev pub CountsAreSteps : Type 0
 CountsAreSteps =
-    (K : kernel.Kernel) (s : Stim) (start : World) (bound : ℕ) (actions : List Action) (z : Told (of_worlds K start bound)) →
-    leads (told_of (of_worlds K start bound) s) (told_start (of_worlds K start bound)) actions ≡ Some z →
+    (K : kernel.Kernel) (s : Stim) (start : World) (bound : ℕ) (actions : List Action) (z : Counted (of_worlds K start bound)) →
+    leads (counted_of (of_worlds K start bound) s) (counted_start (of_worlds K start bound)) actions ≡ Some z →
     (family : ℕ) → z.actions family ≡ steps_of K s family (Some start) actions

@@ -39,30 +39,30 @@ abbrev pub allowed : (P : Source) → Stim → P.State → List P.Action → Opt
 allowed P s x actions = leads (program_of P s) x actions
 
 -- a state, and how many actions each family has done
-pub record Told (P : Source) : Type 0 where
+pub record Counted (P : Source) : Type 0 where
   pub state : P.State
   pub actions : (family : ℕ) → ℕ
 
-abbrev pub told_start : (P : Source) → Told P
-told_start P = record { state = P.start; actions = λ family. 0 }
+abbrev pub counted_start : (P : Source) → Counted P
+counted_start P = record { state = P.start; actions = λ family. 0 }
 
-abbrev pub told_after : (P : Source) → Told P → P.Action → P.State → Told P
-told_after P x action y =
+abbrev pub counted_after : (P : Source) → Counted P → P.Action → P.State → Counted P
+counted_after P x action y =
     record { state = y; actions = λ family. x.actions family + counted_for family (P.mover x.state action) }
 
 -- the program under a stimulus, with the actions of its families
-abbrev pub told_of : Source → Stim → System
-told_of P s = record {
-  State = Told P;
+abbrev pub counted_of : Source → Stim → System
+counted_of P s = record {
+  State = Counted P;
   Step = P.Action;
-  start = told_start P;
-  next = λ x action. and_then (P.acts s x.state action) (λ y. Some (told_after P x action y));
+  start = counted_start P;
+  next = λ x action. and_then (P.acts s x.state action) (λ y. Some (counted_after P x action y));
 }
 
 -- the actions that a family has done; one that has no name, or isn't there yet, has done none
-abbrev pub actions_by : (P : Source) → Told P → Option ℕ → ℕ
+abbrev pub actions_by : (P : Source) → Counted P → Option ℕ → ℕ
 actions_by P x None = 0
 actions_by P x (Some family) = x.actions family
 
-abbrev pub actions_of : (P : Source) → Told P → Option Family → ℕ
+abbrev pub actions_of : (P : Source) → Counted P → Option Family → ℕ
 actions_of P x family = actions_by P x (and_then family (P.family_number x.state))

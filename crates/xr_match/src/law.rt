@@ -6,7 +6,7 @@ ghost use Rattle.xc_meaning.specs.Runs.{Allowed, AllowedKernel};
 ghost use Rattle.xc_meaning.specs.States.Worlds.{Action};
 ghost use Rattle.xr_match.specs.Matching.{CountsAreSteps, RunsMatch, RunsMatchWholly};
 ghost use Rattle.xr_match.specs.Meanings.{KernelsCarry, KernelsCarryWholly, of_kernel, of_text};
-ghost use Rattle.xr_match.specs.Sources.{told_of};
+ghost use Rattle.xr_match.specs.Sources.{counted_of};
 ghost use Rattle.xr_match.specs.Systems.{IsRun};
 
 /// An image that implements a program's kernel implements the program's text: what a machine with it does under a stimulus, whatever
@@ -23,9 +23,9 @@ pub fn kernel_carries_to_text()
 /// kernel.
 pub fn runs_are_allowed()
     ensures text { (P : Items Item) (s : Stim) (actions : Items Action) →
-        IsRun (told_of (of_text P) s) actions → Allowed P s actions }
+        IsRun (counted_of (of_text P) s) actions → Allowed P s actions }
     ensures kernel { (K : Kernel) (s : Stim) (actions : Items Action) →
-        IsRun (told_of (of_kernel K) s) actions → AllowedKernel K s actions }
+        IsRun (counted_of (of_kernel K) s) actions → AllowedKernel K s actions }
 {}
 
 /// What implementing says in the words of runs. Each list of events that a machine can do from its start, one after the other, has one

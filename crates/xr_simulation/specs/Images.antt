@@ -24,9 +24,9 @@ use Rattle.xr_simulation.specs.Fits.{FitOn}
 use Rattle.xr_simulation.specs.Roles.{Role, Roles, unused, used_by}
 use Rattle.xr_simulation.specs.Runners.{Setting, Runner, IsLaidOut, IsPort, IsTimer, anyone, footprint_of, home, outside, places, plan, port_place, timer_place}
 use Rattle.xr_simulation.specs.Plain.{ArePlain}
-use Rattle.xr_simulation.specs.Standing.{living_on}
+use Rattle.xr_simulation.specs.MatchStates.{living_on}
 use Rattle.xr_simulation.specs.Wired.{AreSidesOn, IsLine}
-use Rattle.xr_channels.specs.Wires.{IsWired, place}
+use Rattle.xr_channels.specs.Channels.{IsWired, end_of_side}
 use Rattle.xc_kernel.specs.declared.kernel.Timer.{Timer}
 
 -- What is so of a core of which threads are needed, whoever runs there: each thread of which it has need, with any footprint, is laid out, and has
@@ -78,7 +78,7 @@ pub record AreLines (g : Setting) : Type 0 where
   pub used : (core c : ℕ) → c < length g.program.channels → is_used_on g.program core c ≡ true →
       AreSidesOn g.program c core × ((line : ℕ) × IsLine g.program line c)
   pub ends : (line : ℕ) (p : Pair) (side : Side) → slice_get g.image.chans line ≡ Some p →
-      (place p side).end < (parts_in g.image.cores (place p side).core).ends
+      (end_of_side p side).end < (parts_in g.image.cores (end_of_side p side).core).ends
 
 -- The image has the code of the kernel's roots, each for a thread of its core.
 pub record IsImageOf (g : Setting) (who : Roles) : Type 0 where

@@ -5,11 +5,11 @@ pub mod Runners
 pub mod Fits
 pub mod Sizes
 pub mod ThreadViews
-pub mod Turns
+pub mod NextStep
 pub mod Roles
 pub mod Plain
 pub mod Wired
-pub mod Standing
+pub mod MatchStates
 pub mod Settled
 pub mod Images
 pub mod Living

@@ -6,7 +6,7 @@ use Rattle.xc_meaning.specs.States.Branches.{Birth, Branch}
 use Rattle.xl_par.specs.Acquired.{Acquired}
 use Rattle.xr_match.specs.Lives.{Family, Life, Watched, of_child}
 use Rattle.xr_match.specs.Meanings.{family_in, of_kernel}
-use Rattle.xr_match.specs.Sources.{Told, actions_of}
+use Rattle.xr_match.specs.Sources.{Counted, actions_of}
 use Rattle.xr_simulation.specs.Roles.{Roles, got_by, unused, used_by}
 use Rattle.xr_simulation.specs.Runners.{Setting, Runner}
 
@@ -44,7 +44,7 @@ AreKidsOf lives maker par (u ∷ us) = ((lives u).family ≡ Some (of_child make
 
 -- A thread's life is of the family of its branch; it got a synchroniser for each `par` of several branches that the family made, and for the one that it is
 -- opening, to which it tied the threads that it has in hand.
-pub record IsNamed (g : Setting) (lives : ℕ → Life) (life : Life) (x : Told (of_kernel g.program)) (r : Runner) (hand : Option Acquired) : Type 0 where
+pub record IsNamed (g : Setting) (lives : ℕ → Life) (life : Life) (x : Counted (of_kernel g.program)) (r : Runner) (hand : Option Acquired) : Type 0 where
   pub name : Family
   pub of_life : life.family ≡ Some name
   pub number : family_in g.program x.state name ≡ Some r.family
@@ -55,7 +55,7 @@ pub record IsNamed (g : Setting) (lives : ℕ → Life) (life : Life) (x : Told 
 
 -- The lives' names are so, one of a thread that was got has done nothing, and one that is over has done no more steps than the bound
 -- allows. A branch's maker stands before it.
-pub record AreNamed (g : Setting) (who : Roles) (w : Watched) (x : Told (of_kernel g.program)) : Type 0 where
+pub record AreNamed (g : Setting) (who : Roles) (w : Watched) (x : Counted (of_kernel g.program)) : Type 0 where
   pub named : (c t : ℕ) (r : Runner) (hand : Option Acquired) → who c t ≡ used_by r hand → IsNamed g (w.lives c) (w.lives c t) x r hand
   pub got : (c u t : ℕ) → who c u ≡ got_by t → ((w.lives c u).steps ≡ 0) × ((w.lives c u).pars ≡ 0)
   pub over : (c t : ℕ) → who c t ≡ unused →

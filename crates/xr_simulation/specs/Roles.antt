@@ -14,7 +14,7 @@ use Rattle.xr_simulation.specs.Fits.{FitOn}
 use Rattle.xr_simulation.specs.Parents.{Parent, branches_of, syncs_of}
 use Rattle.xr_simulation.specs.Runners.{Setting, Runner, outside}
 use Rattle.xr_simulation.specs.ThreadViews.{Owns, giving_back, held_in, sync_in}
-use Rattle.xr_simulation.specs.Turns.{IsFree, IsWaitingTied}
+use Rattle.xr_simulation.specs.NextStep.{IsFree, IsWaitingTied}
 
 -- A thread is unused; or it was got by another one of its core for a `par` that that one is opening; or it runs a branch, with what it has in
 -- hand. Which thread runs which branch is a part of what stands between the two sides, and not fixed for a run: a `par` makes and

@@ -59,12 +59,12 @@ abbrev pub everything : Footprint
 everything = record { uses = λ v. true; changes = λ v. true; ports = λ p. true; timers = λ t. true; channels = λ c. true }
 
 -- How a thread's code addresses variables, ports and ends: the word that dp names, and its own plan or else the core's.
-pub record Block : Type 0 where
+pub record Activation : Type 0 where
   pub base : ℕ
   pub plan : Option Plan
 
 -- the outermost one
-abbrev pub outside : Block
+abbrev pub outside : Activation
 outside = record { base = 0; plan = None }
 
 abbrev pub plan_in : (of_core : Plan) → (own : Option Plan) → Plan
@@ -88,7 +88,7 @@ pub record Runner : Type 0 where
   pub tie : Option ℕ
   pub branch : ℕ
   pub family : ℕ
-  pub block : Block
+  pub block : Activation
   pub stack : ℕ
   pub footprint : Footprint
   pub parents : List Parent

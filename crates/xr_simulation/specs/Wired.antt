@@ -16,8 +16,8 @@ use Rattle.xr_simulation.specs.Roles.{Roles, used_by}
 use Rattle.xr_simulation.specs.Runners.{Setting, Runner}
 use Rattle.xr_simulation.specs.Transfers.{Transfer}
 use Rattle.xr_channels.specs.Balance.{Local}
-use Rattle.xr_channels.specs.Phases.{Spot, between, spot}
-use Rattle.xr_channels.specs.Wires.{Ghosts}
+use Rattle.xr_channels.specs.Phases.{SideState, between, side_state}
+use Rattle.xr_channels.specs.Channels.{Ghosts}
 
 -- the inboxes of the channels with two sides, in the order of the image's lines
 abbrev pub boxes_in : kernel.Kernel → List Inboxes → List Inboxes
@@ -43,11 +43,11 @@ pub record IsTransferring (who : Roles) (core thread : ℕ) (c : ℕ) (side : Si
 
 -- How a side of a channel stands, and what is late to the other side: as the transfer says that a thread on the side's core is in there;
 -- or, where none is, in no piece, with nothing late.
-pub data Stance (g : Setting) (who : Roles) (c : ℕ) (side : Side) (at : Spot) (late : List Parcel) : Type 0 where
-  in_piece : (core thread : ℕ) (i : IsTransferring who core thread c side) → core_of g.program c side ≡ core →
-      at ≡ spot i.transfer.phase false → late ≡ i.transfer.late → Stance g who c side at late
-  at_rest : ((core thread : ℕ) → IsTransferring who core thread c side → ⊥) → at ≡ spot between false → late ≡ [] →
-      Stance g who c side at late
+pub data SideIs (g : Setting) (who : Roles) (c : ℕ) (side : Side) (at : SideState) (late : List Parcel) : Type 0 where
+  in_transfer : (core thread : ℕ) (i : IsTransferring who core thread c side) → core_of g.program c side ≡ core →
+      at ≡ side_state i.transfer.phase false → late ≡ i.transfer.late → SideIs g who c side at late
+  idle : ((core thread : ℕ) → IsTransferring who core thread c side → ⊥) → at ≡ side_state between false → late ≡ [] →
+      SideIs g who c side at late
 
 -- The one relation of all channels: a side of a channel stands where the thread does that has begun a transfer on it, and else in no piece; and
 -- there is at most one such thread. It is on the core of the channel's sides. Where each side of a line stands is a ghost: the machine
@@ -60,7 +60,7 @@ pub record AreWired (g : Setting) (who : Roles) (m : Machine) (x : World) : Type
   pub listed : (core thread c : ℕ) (side : Side) → IsTransferring who core thread c side →
       (line : ℕ) × IsLine g.program line c × AreSidesOn g.program c core
   pub stances : (line c : ℕ) (side : Side) → IsLine g.program line c →
-      Stance g who c side (ghosts.spots line side) (ghosts.late line (other_side side))
+      SideIs g who c side (ghosts.side_states line side) (ghosts.late line (other_side side))
   pub one : (core thread core' thread' c : ℕ) (side : Side) → IsTransferring who core thread c side → IsTransferring who core' thread' c side →
       (core' ≡ core) × (thread' ≡ thread)
 

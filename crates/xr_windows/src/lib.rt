@@ -21,7 +21,7 @@ pub use law::{
     due_items_of_a_core_have_room, eight_ticks_of_a_core, parts_tell_the_end,
     records_merge_to_the_trace, windows_depend_on_part_and_batches,
 };
-pub use merge::told;
+pub use merge::merged_run;
 pub use needs::Needs;
 pub use part::Part;
 pub use run::Run;

@@ -31,7 +31,7 @@ pub struct Totals {
 
 /// What the four parts of a run tell, by the number of the core, that have run all their windows. The one error is want of
 /// memory.
-pub fn told<U: RunName>(
+pub fn merged_run<U: RunName>(
     alloc: Global,
     a: &Part,
     b: &Part,

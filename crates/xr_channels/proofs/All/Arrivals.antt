@@ -9,9 +9,9 @@ use Rattle.xs_instr.specs.declared.state.Token.{Token}
 use Rattle.xs_instr.specs.Ends.{Peer}
 use Rattle.xs_instr.specs.Machine.{link_of, link_put, came}
 use Rattle.xc_meaning.specs.States.Channels.{Parcel, offer, opening, word, closing, taken, Side, first, second, other_side, Inboxes}
-use Rattle.xr_channels.specs.Phases.{offers, opens, closes, Phase, between, sends_end, awaits_ack, checks_end, sends_ack, was_closed, streams, Spot, spot, LateBy, AreWords, Path, answers, turns, reads_by, Line, Talk, Question}
-use Rattle.xr_channels.specs.Fresh.{Fresh, Stands}
-use Rattle.xr_channels.specs.Wires.{Links, tokens_at, tokens_for, place, Ghosts, Wires, IsWired}
+use Rattle.xr_channels.specs.Phases.{offers, opens, closes, Phase, between, sends_end, awaits_ack, checks_end, sends_ack, was_closed, streams, SideState, side_state, LateBy, AreWords, Path, answers, switches_mode, reads_by, Direction, TransitRel, Question}
+use Rattle.xr_channels.specs.ChannelRel.{QuestionsArrived, ChannelRel}
+use Rattle.xr_channels.specs.Channels.{Links, tokens_at, tokens_for, end_of_side, Ghosts, Channels, IsWired}
 use Rattle.xr_channels.proofs.Sides.Late.{puts_first, put_then_comes, comes_first, token_comes}
 use Rattle.xr_channels.proofs.Tokens.Lines.{put_late, come_on}
 use Rattle.xr_channels.proofs.Sides.Found.{is_taken}
@@ -100,68 +100,68 @@ late_facts phase inside x rest i (late_word v ps f n) h =
     }
 
 -- it is put
-pub late_talk : (s r : Spot) (i : Bool) (go come : Line) (x : Parcel) (rest : List Parcel) → go.late ≡ x ∷ rest → LateKind s.phase s.inside x rest i → Talk s r go come → Talk (spot s.phase i) r (put_late go x rest) come
+pub late_talk : (s r : SideState) (i : Bool) (go come : Direction) (x : Parcel) (rest : List Parcel) → go.late ≡ x ∷ rest → LateKind s.phase s.inside x rest i → TransitRel s r go come → TransitRel (side_state s.phase i) r (put_late go x rest) come
 late_talk s r i go come x rest e kind h =
     let f = late_facts s.phase s.inside x rest i kind (subst (λ l. LateBy s.phase s.inside l) e h.outward.late) in
-    puts_first s r i go come x rest e f.none (f.path (turns r.phase)) f.late f.same h
+    puts_first s r i go come x rest e f.none (f.path (switches_mode r.phase)) f.late f.same h
 
 -- and its first token comes
-pub late_comes : (s r : Spot) (i : Bool) (go come : Line) (x : Parcel) (rest : List Parcel) (e : go.late ≡ x ∷ rest) → LateKind s.phase s.inside x rest i → (h : Talk s r go come) (t : Token) (l : List Token) → go.link ≡ t ∷ l → h.outward.more ≡ [] → Talk (spot s.phase i) r (come_on (put_late go x rest) t l) come
+pub late_comes : (s r : SideState) (i : Bool) (go come : Direction) (x : Parcel) (rest : List Parcel) (e : go.late ≡ x ∷ rest) → LateKind s.phase s.inside x rest i → (h : TransitRel s r go come) (t : Token) (l : List Token) → go.link ≡ t ∷ l → h.outward.more ≡ [] → TransitRel (side_state s.phase i) r (come_on (put_late go x rest) t l) come
 late_comes s r i go come x rest e kind h t l link start =
     let f = late_facts s.phase s.inside x rest i kind (subst (λ k. LateBy s.phase s.inside k) e h.outward.late) in
-    put_then_comes s r i go come x rest e f.none (f.path (turns r.phase)) f.late f.same h t l link start
+    put_then_comes s r i go come x rest e f.none (f.path (switches_mode r.phase)) f.late f.same h t l link start
 
 -- nothing of the machine changes
 pub nothing_changes : (cores : List CoreState) (links : Links) (z : Peer) → IsSelfless links → Square links → Changed cores links cores links z
 nothing_changes cores links z selves square = record { buffers = λ x f n. refl; ways = λ a x f n. refl; selves = selves; square = square }
 
-module _ (pairs : List Pair) (wired : IsWired pairs) (cores : List CoreState) (links : Links) (boxes : List Inboxes) (g : Ghosts) (h : Wires pairs cores links boxes g) (square : Square links) (k : ℕ) (p : Pair) (side : Side) (at_k : slice_get pairs k ≡ Some p) where
+module _ (pairs : List Pair) (wired : IsWired pairs) (cores : List CoreState) (links : Links) (boxes : List Inboxes) (g : Ghosts) (h : Channels pairs cores links boxes g) (square : Square links) (k : ℕ) (p : Pair) (side : Side) (at_k : slice_get pairs k ≡ Some p) where
   -- the side's core and end, the other side, and the two lines
   abbrev pub c : ℕ
-  c = (place p side).core
+  c = (end_of_side p side).core
 
   abbrev pub e : ℕ
-  e = (place p side).end
+  e = (end_of_side p side).end
 
   abbrev pub other : Side
   other = other_side side
 
-  abbrev pub there : Line
+  abbrev pub there : Direction
   there = go_line pairs wired cores links boxes g h k p side at_k
 
-  abbrev pub here : Line
+  abbrev pub here : Direction
   here = come_line pairs wired cores links boxes g h k p side at_k
 
   -- A side's late parcel is put at the other side: nothing happens in the machine.
-  pub puts_wires : (x : Parcel) (rest : List Parcel) (i : Bool) → g.late k other ≡ x ∷ rest → LateKind (g.spots k side).phase (g.spots k side).inside x rest i → Fresh (spot (g.spots k side).phase i) (g.spots k other) (put_late there x rest) here → Wires pairs cores links (boxed boxes k other (parcels boxes k other ++ x ∷ [])) (moved_to g k side (spot (g.spots k side).phase i) rest)
+  pub puts_wires : (x : Parcel) (rest : List Parcel) (i : Bool) → g.late k other ≡ x ∷ rest → LateKind (g.side_states k side).phase (g.side_states k side).inside x rest i → QuestionsArrived (side_state (g.side_states k side).phase i) (g.side_states k other) (put_late there x rest) here → Channels pairs cores links (boxed boxes k other (parcels boxes k other ++ x ∷ [])) (moved_to g k side (side_state (g.side_states k side).phase i) rest)
   puts_wires x rest i late kind fresh =
-      takes_next pairs wired cores links boxes g h k p side at_k cores links (boxed boxes k other (parcels boxes k other ++ x ∷ [])) (moved_to g k side (spot (g.spots k side).phase i) rest) (spot (g.spots k side).phase i) _ _ rest
-      (puts g k side (spot (g.spots k side).phase i) rest boxes (parcels boxes k other ++ x ∷ []) (h.boxes k p at_k))
+      takes_next pairs wired cores links boxes g h k p side at_k cores links (boxed boxes k other (parcels boxes k other ++ x ∷ [])) (moved_to g k side (side_state (g.side_states k side).phase i) rest) (side_state (g.side_states k side).phase i) _ _ rest
+      (puts g k side (side_state (g.side_states k side).phase i) rest boxes (parcels boxes k other ++ x ∷ []) (h.boxes k p at_k))
       (λ same. let none : [] ≡ x ∷ rest = sym (prompt_other same) ∙ late in cc)
-      here.buffer (nothing_changes cores links (place p side) h.selves square) refl (λ a y f. refl)
-      (record { talk = late_talk (g.spots k side) (g.spots k other) i there here x rest late kind (stands_now pairs wired cores links boxes g h k p side at_k).talk; fresh = fresh })
+      here.buffer (nothing_changes cores links (end_of_side p side) h.selves square) refl (λ a y f. refl)
+      (record { talk = late_talk (g.side_states k side) (g.side_states k other) i there here x rest late kind (stands_now pairs wired cores links boxes g h k p side at_k).talk; fresh = fresh })
     where
-      prompt_other : (place p other).core ≡ c → g.late k other ≡ []
+      prompt_other : (end_of_side p other).core ≡ c → g.late k other ≡ []
       prompt_other = by side at_k
         where
-          by : (s : Side) → slice_get pairs k ≡ Some p → (place p (other_side s)).core ≡ (place p s).core → g.late k (other_side s) ≡ []
+          by : (s : Side) → slice_get pairs k ≡ Some p → (end_of_side p (other_side s)).core ≡ (end_of_side p s).core → g.late k (other_side s) ≡ []
           by first z y = h.prompt k p second z y
           by second z y = h.prompt k p first z y
 
   -- The side traps on its CHKCT ACK, since another parcel than the answer stands first: what it has still to put is put now.
-  pub trap_puts : (z : Question) (b : Bool) (x : Parcel) (rest : List Parcel) (y : Parcel) (ps : List Parcel) → g.spots k side ≡ spot (awaits_ack z) b → g.late k other ≡ x ∷ rest → parcels boxes k side ≡ y ∷ ps → is_taken y ≡ false → (i : Bool) × LateKind (awaits_ack z) b x rest i × Wires pairs cores links (boxed boxes k other (parcels boxes k other ++ x ∷ [])) (moved_to g k side (spot (awaits_ack z) i) rest)
+  pub trap_puts : (z : Question) (b : Bool) (x : Parcel) (rest : List Parcel) (y : Parcel) (ps : List Parcel) → g.side_states k side ≡ side_state (awaits_ack z) b → g.late k other ≡ x ∷ rest → parcels boxes k side ≡ y ∷ ps → is_taken y ≡ false → (i : Bool) × LateKind (awaits_ack z) b x rest i × Channels pairs cores links (boxed boxes k other (parcels boxes k other ++ x ∷ [])) (moved_to g k side (side_state (awaits_ack z) i) rest)
   trap_puts z b x rest y ps at late found wrong =
       let kind = late_kind (awaits_ack z) b x rest (subst (λ l. LateBy (awaits_ack z) b l) late stands.talk.outward.late) in (
         kind.0,
         kind.1,
-        subst (λ f. Wires pairs cores links (boxed boxes k other (parcels boxes k other ++ x ∷ [])) (moved_to g k side (spot f kind.0) rest)) (ap (λ (s : Spot). s.phase) at)
+        subst (λ f. Channels pairs cores links (boxed boxes k other (parcels boxes k other ++ x ∷ [])) (moved_to g k side (side_state f kind.0) rest)) (ap (λ (s : SideState). s.phase) at)
             (puts_wires x rest kind.0 late
-            (subst (λ (s : Spot). LateKind s.phase s.inside x rest kind.0) (sym at) kind.1)
-            (subst (λ (s : Spot). Fresh (spot s.phase kind.0) (g.spots k other) (put_late there x rest) here) (sym at) (early kind.0 kind.1))),
+            (subst (λ (s : SideState). LateKind s.phase s.inside x rest kind.0) (sym at) kind.1)
+            (subst (λ (s : SideState). QuestionsArrived (side_state s.phase kind.0) (g.side_states k other) (put_late there x rest) here) (sym at) (early kind.0 kind.1))),
       )
     where
-      stands : Stands (spot (awaits_ack z) b) (g.spots k other) there here
-      stands = at_spot pairs wired cores links boxes g h k p side at_k (spot (awaits_ack z) b) at
+      stands : ChannelRel (side_state (awaits_ack z) b) (g.side_states k other) there here
+      stands = at_spot pairs wired cores links boxes g h k p side at_k (side_state (awaits_ack z) b) at
 
       no_answer_first : (w : Parcel) → is_taken w ≡ false → answers (w ∷ []) ≡ 0
       no_answer_first (offer v) e = refl
@@ -176,16 +176,16 @@ module _ (pairs : List Pair) (wired : IsWired pairs) (cores : List CoreState) (l
       outside f w ws i e (late_opening o n) = (n, subst (λ u. reads_by u false ≡ false) (sym (e ∙ o)) refl)
       outside f w ws i e (late_word v vs o n) = let none : awaits_ack z ≡ streams = e ∙ o in cc
 
-      early : (i : Bool) → LateKind (awaits_ack z) b x rest i → Fresh (spot (awaits_ack z) i) (g.spots k other) (put_late there x rest) here
+      early : (i : Bool) → LateKind (awaits_ack z) b x rest i → QuestionsArrived (side_state (awaits_ack z) i) (g.side_states k other) (put_late there x rest) here
       early i kind =
           let out = outside (awaits_ack z) x rest i refl kind in
-          let st = subst (λ w. Stands (spot (awaits_ack z) w) (g.spots k other) there here) out.0 stands in
-          trap_fresh z (g.spots k other) i there here x rest y ps st.talk out.1 found (no_answer_first y wrong) (no_answer (awaits_ack z) b x rest i kind) st.fresh
+          let st = subst (λ w. ChannelRel (side_state (awaits_ack z) w) (g.side_states k other) there here) out.0 stands in
+          trap_fresh z (g.side_states k other) i there here x rest y ps st.talk out.1 found (no_answer_first y wrong) (no_answer (awaits_ack z) b x rest i kind) st.fresh
 
   -- nothing but tokens changes
-  unchanged : Update k side boxes boxes g g (g.spots k side) (parcels boxes k other) (parcels boxes k side) (g.late k other)
+  unchanged : Update k side boxes boxes g g (g.side_states k side) (parcels boxes k other) (parcels boxes k side) (g.late k other)
   unchanged = record {
-    only = record { spots = λ j s n. refl; late = λ j s n. refl; boxes = λ j n. refl; size = refl };
+    only = record { side_states = λ j s n. refl; late = λ j s n. refl; boxes = λ j n. refl; size = refl };
     spot_is = refl;
     other_is = refl;
     there_is = refl;
@@ -195,62 +195,62 @@ module _ (pairs : List Pair) (wired : IsWired pairs) (cores : List CoreState) (l
   }
 
   -- within a core nothing is late
-  prompt_there : (place p other).core ≡ c → g.late k other ≡ []
+  prompt_there : (end_of_side p other).core ≡ c → g.late k other ≡ []
   prompt_there = by side at_k
     where
-      by : (s : Side) → slice_get pairs k ≡ Some p → (place p (other_side s)).core ≡ (place p s).core → g.late k (other_side s) ≡ []
+      by : (s : Side) → slice_get pairs k ≡ Some p → (end_of_side p (other_side s)).core ≡ (end_of_side p s).core → g.late k (other_side s) ≡ []
       by first z y = h.prompt k p second z y
       by second z y = h.prompt k p first z y
 
   -- A token goes from a side to the other: it belongs to the inbox there, or a parcel of the side is late, and is put first.
   pub data Arrival (cores' : List CoreState) (links' : Links) : Type 0 where
-    belongs : Wires pairs cores' links' boxes g → Arrival cores' links'
-    after_late : (x : Parcel) (rest : List Parcel) (i : Bool) → g.late k other ≡ x ∷ rest → LateKind (g.spots k side).phase (g.spots k side).inside x rest i → Wires pairs cores' links' (boxed boxes k other (parcels boxes k other ++ x ∷ [])) (moved_to g k side (spot (g.spots k side).phase i) rest) → Arrival cores' links'
+    belongs : Channels pairs cores' links' boxes g → Arrival cores' links'
+    after_late : (x : Parcel) (rest : List Parcel) (i : Bool) → g.late k other ≡ x ∷ rest → LateKind (g.side_states k side).phase (g.side_states k side).inside x rest i → Channels pairs cores' links' (boxed boxes k other (parcels boxes k other ++ x ∷ [])) (moved_to g k side (side_state (g.side_states k side).phase i) rest) → Arrival cores' links'
 
   -- the other side of the other one
-  far_back : place p (other_side other) ≡ place p side
-  far_back = ap (place p) (twice side)
+  far_back : end_of_side p (other_side other) ≡ end_of_side p side
+  far_back = ap (end_of_side p) (twice side)
 
   -- what a token that comes belongs to
-  pub arrives : (cores' : List CoreState) (links' : Links) (t : Token) (rest : List Token) → Changed cores links cores' links' (place p other) → tokens_at cores' (place p other).core (place p other).end ≡ there.buffer ++ t ∷ [] → there.link ≡ t ∷ rest → tokens_for (place p other).end (link_of links' (place p (other_side other)).core (place p other).core) ≡ rest → Arrival cores' links'
-  arrives cores' links' t rest ch buffer link way = by (comes_first (g.spots k side) (g.spots k other) there t rest talk.outward link)
+  pub arrives : (cores' : List CoreState) (links' : Links) (t : Token) (rest : List Token) → Changed cores links cores' links' (end_of_side p other) → tokens_at cores' (end_of_side p other).core (end_of_side p other).end ≡ there.buffer ++ t ∷ [] → there.link ≡ t ∷ rest → tokens_for (end_of_side p other).end (link_of links' (end_of_side p (other_side other)).core (end_of_side p other).core) ≡ rest → Arrival cores' links'
+  arrives cores' links' t rest ch buffer link way = by (comes_first (g.side_states k side) (g.side_states k other) there t rest talk.outward link)
     where
-      stands : Stands (g.spots k side) (g.spots k other) there here
+      stands : ChannelRel (g.side_states k side) (g.side_states k other) there here
       stands = stands_now pairs wired cores links boxes g h k p side at_k
 
-      talk : Talk (g.spots k side) (g.spots k other) there here
+      talk : TransitRel (g.side_states k side) (g.side_states k other) there here
       talk = stands.talk
 
       by : ((m : List Token) × (talk.outward.more ≡ t ∷ m)) ⊎ ((talk.outward.more ≡ []) × (x : Parcel) × (ps : List Parcel) × (there.late ≡ x ∷ ps)) → Arrival cores' links'
-      by (inl m) = belongs (goes_next pairs wired cores links boxes g h k p side at_k cores' links' boxes g (g.spots k side) _ _ (g.late k other) unchanged prompt_there t rest ch buffer way (record { talk = token_comes (g.spots k side) (g.spots k other) there here t rest m.0 talk link m.1; fresh = token_fresh (g.spots k side) (g.spots k other) there here t rest stands.fresh }))
+      by (inl m) = belongs (goes_next pairs wired cores links boxes g h k p side at_k cores' links' boxes g (g.side_states k side) _ _ (g.late k other) unchanged prompt_there t rest ch buffer way (record { talk = token_comes (g.side_states k side) (g.side_states k other) there here t rest m.0 talk link m.1; fresh = token_fresh (g.side_states k side) (g.side_states k other) there here t rest stands.fresh }))
       by (inr m) =
-          let kind = late_kind (g.spots k side).phase (g.spots k side).inside m.1 m.2 (subst (λ l. LateBy (g.spots k side).phase (g.spots k side).inside l) m.3 talk.outward.late) in
+          let kind = late_kind (g.side_states k side).phase (g.side_states k side).inside m.1 m.2 (subst (λ l. LateBy (g.side_states k side).phase (g.side_states k side).inside l) m.3 talk.outward.late) in
           after_late m.1 m.2 kind.0 m.3 kind.1
-          (goes_next pairs wired cores links boxes g h k p side at_k cores' links' (boxed boxes k other (parcels boxes k other ++ m.1 ∷ [])) (moved_to g k side (spot (g.spots k side).phase kind.0) m.2) (spot (g.spots k side).phase kind.0) _ _ m.2
-          (puts g k side (spot (g.spots k side).phase kind.0) m.2 boxes (parcels boxes k other ++ m.1 ∷ []) (h.boxes k p at_k))
+          (goes_next pairs wired cores links boxes g h k p side at_k cores' links' (boxed boxes k other (parcels boxes k other ++ m.1 ∷ [])) (moved_to g k side (side_state (g.side_states k side).phase kind.0) m.2) (side_state (g.side_states k side).phase kind.0) _ _ m.2
+          (puts g k side (side_state (g.side_states k side).phase kind.0) m.2 boxes (parcels boxes k other ++ m.1 ∷ []) (h.boxes k p at_k))
           (λ same. let none : [] ≡ m.1 ∷ m.2 = sym (prompt_there same) ∙ m.3 in cc)
           t rest ch buffer way
           (record {
-            talk = late_comes (g.spots k side) (g.spots k other) kind.0 there here m.1 m.2 m.3 kind.1 talk t rest link m.0;
-            fresh = late_fresh (g.spots k side) (g.spots k other) kind.0 there here m.1 m.2 t rest talk m.0 (no_answer _ _ _ _ _ kind.1) stands.fresh;
+            talk = late_comes (g.side_states k side) (g.side_states k other) kind.0 there here m.1 m.2 m.3 kind.1 talk t rest link m.0;
+            fresh = late_fresh (g.side_states k side) (g.side_states k other) kind.0 there here m.1 m.2 t rest talk m.0 (no_answer _ _ _ _ _ kind.1) stands.fresh;
           }))
 
 -- The first item of a link is a token for the end of a side, sent by the core of the other one.
-module _ (pairs : List Pair) (wired : IsWired pairs) (cores : List CoreState) (links : Links) (boxes : List Inboxes) (g : Ghosts) (h : Wires pairs cores links boxes g) (square : Square links) (k : ℕ) (p : Pair) (side : Side) (at_k : slice_get pairs k ≡ Some p) (core : CoreState) (at_b : slice_get cores (place p (other_side side)).core ≡ Some core) (away : (place p side).core ≢ (place p (other_side side)).core) where
+module _ (pairs : List Pair) (wired : IsWired pairs) (cores : List CoreState) (links : Links) (boxes : List Inboxes) (g : Ghosts) (h : Channels pairs cores links boxes g) (square : Square links) (k : ℕ) (p : Pair) (side : Side) (at_k : slice_get pairs k ≡ Some p) (core : CoreState) (at_b : slice_get cores (end_of_side p (other_side side)).core ≡ Some core) (away : (end_of_side p side).core ≢ (end_of_side p (other_side side)).core) where
   -- when it comes
-  pub move_followed : (tick : ℕ) (t : Token) (rest : List Item) → IsEnd core.ends (place p (other_side side)).end → link_of links (place p side).core (place p (other_side side)).core ≡ record { tick = tick; moved = Tok (place p (other_side side)).end t } ∷ rest → Arrival pairs wired cores links boxes g h square k p side at_k (slice_set cores (place p (other_side side)).core (came core (Tok (place p (other_side side)).end t))) (link_put links (place p side).core (place p (other_side side)).core rest)
+  pub move_followed : (tick : ℕ) (t : Token) (rest : List Item) → IsEnd core.ends (end_of_side p (other_side side)).end → link_of links (end_of_side p side).core (end_of_side p (other_side side)).core ≡ record { tick = tick; moved = Tok (end_of_side p (other_side side)).end t } ∷ rest → Arrival pairs wired cores links boxes g h square k p side at_k (slice_set cores (end_of_side p (other_side side)).core (came core (Tok (end_of_side p (other_side side)).end t))) (link_put links (end_of_side p side).core (end_of_side p (other_side side)).core rest)
   move_followed tick t rest is_end is =
-      let a = (place p side).core in
-      let q = place p (other_side side) in
+      let a = (end_of_side p side).core in
+      let q = end_of_side p (other_side side) in
       let m = token_comes_to cores links a q.core tick rest core at_b h.selves square (wired.core k p side at_k) (wired.core k p (other_side side) at_k) away q.end t is_end is in
-      let back : (place p (other_side (other_side side))).core ≡ a = ap (λ (z : Peer). z.core) (far_back pairs wired cores links boxes g h square k p side at_k) in
+      let back : (end_of_side p (other_side (other_side side))).core ≡ a = ap (λ (z : Peer). z.core) (far_back pairs wired cores links boxes g h square k p side at_k) in
       arrives pairs wired cores links boxes g h square k p side at_k
       (slice_set cores q.core (came core (Tok q.end t))) (link_put links a q.core rest) t (tokens_for q.end (link_of (link_put links a q.core rest) a q.core)) m.0 m.1
       (ap (λ x. tokens_for q.end (link_of links x q.core)) back ∙ m.2)
       (ap (λ x. tokens_for q.end (link_of (link_put links a q.core rest) x q.core)) back)
 
 -- a credit comes
-pub credit_followed : (pairs : List Pair) (cores : List CoreState) (links : Links) (boxes : List Inboxes) (g : Ghosts) (a b tick e : ℕ) (rest : List Item) (core : CoreState) → slice_get cores b ≡ Some core → Square links → a < 4 → b < 4 → a ≢ b → link_of links a b ≡ record { tick = tick; moved = Credit e } ∷ rest → Wires pairs cores links boxes g → Wires pairs (slice_set cores b (came core (Credit e))) (link_put links a b rest) boxes g
+pub credit_followed : (pairs : List Pair) (cores : List CoreState) (links : Links) (boxes : List Inboxes) (g : Ghosts) (a b tick e : ℕ) (rest : List Item) (core : CoreState) → slice_get cores b ≡ Some core → Square links → a < 4 → b < 4 → a ≢ b → link_of links a b ≡ record { tick = tick; moved = Credit e } ∷ rest → Channels pairs cores links boxes g → Channels pairs (slice_set cores b (came core (Credit e))) (link_put links a b rest) boxes g
 credit_followed pairs cores links boxes g a b tick e rest core at_b square la lb ne is h =
     let c = credit_comes cores links a b tick rest core at_b h.selves square la lb ne e is (peer b e) in
     same_wires pairs cores (slice_set cores b (came core (Credit e))) links (link_put links a b rest) boxes g c.1 c.2 c.0.selves h

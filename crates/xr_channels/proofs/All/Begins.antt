@@ -6,45 +6,45 @@ use Rattle.xs_instr.specs.declared.image.Pair.{Pair}
 use Rattle.xs_instr.specs.declared.state.CoreState.{CoreState}
 use Rattle.xs_instr.specs.Machine.{link_of, no_links, boot, boot_end}
 use Rattle.xc_meaning.specs.States.Channels.{Side, first, second, other_side, Inboxes}
-use Rattle.xr_channels.specs.Phases.{between, streams, Spot, spot, Talk, is_open, unsent, ahead, unread, reads, LateBy, Way}
-use Rattle.xr_channels.specs.Wires.{Links, tokens_in, tokens_at, tokens_for, place, line, Wires, start_ghosts, start_spot}
-use Rattle.xr_channels.specs.Fresh.{Stands}
+use Rattle.xr_channels.specs.Phases.{between, streams, SideState, side_state, TransitRel, is_open, unsent, ahead, unread, reads, LateBy, Transit}
+use Rattle.xr_channels.specs.Channels.{Links, tokens_in, tokens_at, tokens_for, end_of_side, direction_to, Channels, start_ghosts, start_side_state}
+use Rattle.xr_channels.specs.ChannelRel.{ChannelRel}
 use Rattle.xr_channels.proofs.Laws.Fresh.{fresh_none}
 use Rattle.xr_channels.proofs.Tokens.Lines.{no_line}
 use Rattle.xr_channels.proofs.All.Frames.{parcels, line_is, stands_is}
 
 -- an empty line between sides that owe nothing
-no_way : (s r : Spot) → unsent s.phase ≡ [] → ahead r.phase ≡ [] → unread r.phase ≡ [] → reads r ≡ s.inside → LateBy s.phase s.inside [] → Way s r no_line
+no_way : (s r : SideState) → unsent s.phase ≡ [] → ahead r.phase ≡ [] → unread r.phase ≡ [] → reads r ≡ s.inside → LateBy s.phase s.inside [] → Transit s r no_line
 no_way s r u a n p late = record { more = []; coming = u; come = ap (λ x. x ++ []) a ∙ sym (ap (λ x. x ++ []) n); path = p; late = late }
 
 -- a plain channel
-pub starts_plain : Talk (spot between false) (spot between false) no_line no_line
+pub starts_plain : TransitRel (side_state between false) (side_state between false) no_line no_line
 starts_plain = record {
-  outward = no_way (spot between false) (spot between false) refl refl refl refl refl;
-  homeward = no_way (spot between false) (spot between false) refl refl refl refl refl;
+  outward = no_way (side_state between false) (side_state between false) refl refl refl refl refl;
+  homeward = no_way (side_state between false) (side_state between false) refl refl refl refl refl;
   mine = is_open refl refl;
   theirs = is_open refl refl;
 }
 
 -- a streaming channel
-pub starts_stream : Talk (spot streams true) (spot streams true) no_line no_line
+pub starts_stream : TransitRel (side_state streams true) (side_state streams true) no_line no_line
 starts_stream = record {
-  outward = no_way (spot streams true) (spot streams true) refl refl refl refl (refl, tt);
-  homeward = no_way (spot streams true) (spot streams true) refl refl refl refl (refl, tt);
+  outward = no_way (side_state streams true) (side_state streams true) refl refl refl refl (refl, tt);
+  homeward = no_way (side_state streams true) (side_state streams true) refl refl refl refl (refl, tt);
   mine = is_open refl refl;
   theirs = is_open refl refl;
 }
 
 -- either
-starts : (b : Bool) → Stands (start_spot b) (start_spot b) no_line no_line
-starts b = record { talk = talks b; fresh = record { mine = fresh_none (start_spot b).phase no_line refl; theirs = fresh_none (start_spot b).phase no_line refl } }
+starts : (b : Bool) → ChannelRel (start_side_state b) (start_side_state b) no_line no_line
+starts b = record { talk = talks b; fresh = record { mine = fresh_none (start_side_state b).phase no_line refl; theirs = fresh_none (start_side_state b).phase no_line refl } }
   where
-    talks : (b : Bool) → Talk (start_spot b) (start_spot b) no_line no_line
+    talks : (b : Bool) → TransitRel (start_side_state b) (start_side_state b) no_line no_line
     talks true = starts_stream
     talks false = starts_plain
 
 -- where no token and no parcel is anywhere
-pub wires_begin : (pairs : List Pair) (streaming : ℕ → Bool) (cores : List CoreState) (links : Links) (boxes : List Inboxes) → ((c e : ℕ) → tokens_at cores c e ≡ []) → ((a b : ℕ) → link_of links a b ≡ []) → ((k : ℕ) (side : Side) → parcels boxes k side ≡ []) → ((k : ℕ) (p : Pair) → slice_get pairs k ≡ Some p → k < length boxes) → Wires pairs cores links boxes (start_ghosts streaming)
+pub wires_begin : (pairs : List Pair) (streaming : ℕ → Bool) (cores : List CoreState) (links : Links) (boxes : List Inboxes) → ((c e : ℕ) → tokens_at cores c e ≡ []) → ((a b : ℕ) → link_of links a b ≡ []) → ((k : ℕ) (side : Side) → parcels boxes k side ≡ []) → ((k : ℕ) (p : Pair) → slice_get pairs k ≡ Some p → k < length boxes) → Channels pairs cores links boxes (start_ghosts streaming)
 wires_begin pairs streaming cores links boxes none no_item no_parcel sized = record {
   talks = λ k p at_k. stands_is _ _ _ _ _ _ _ _ refl refl (empty k p second) (empty k p first) (starts (streaming k));
   boxes = sized;
@@ -52,8 +52,8 @@ wires_begin pairs streaming cores links boxes none no_item no_parcel sized = rec
   selves = λ c. no_item c c;
 }
   where
-    empty : (k : ℕ) (p : Pair) (side : Side) → no_line ≡ line cores links boxes (start_ghosts streaming) p k side
-    empty k p side = line_is _ _ _ _ _ _ _ _ (sym (none (place p side).core (place p side).end)) (sym (ap (tokens_for (place p side).end) (no_item (place p (other_side side)).core (place p side).core))) (sym (no_parcel k side)) refl
+    empty : (k : ℕ) (p : Pair) (side : Side) → no_line ≡ direction_to cores links boxes (start_ghosts streaming) p k side
+    empty k p side = line_is _ _ _ _ _ _ _ _ (sym (none (end_of_side p side).core (end_of_side p side).end)) (sym (ap (tokens_for (end_of_side p side).end) (no_item (end_of_side p (other_side side)).core (end_of_side p side).core))) (sym (no_parcel k side)) refl
 
 -- an end as it starts
 no_tokens : (n e : ℕ) → tokens_in (slice_get (replicate n boot_end) e) ≡ []

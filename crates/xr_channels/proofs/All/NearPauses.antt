@@ -10,8 +10,8 @@ use Rattle.xs_instr.specs.declared.state.CoreState.{CoreState}
 use Rattle.xs_instr.specs.Ends.{Peer, take_word, NotYet}
 use Rattle.xs_instr.specs.Machine.{no_links}
 use Rattle.xc_meaning.specs.States.Channels.{Parcel, closing, Side, other_side, Inboxes, words_among}
-use Rattle.xr_channels.specs.Phases.{Question, Phase, between, sends_end, awaits_ack, checks_end, sends_ack, was_closed, streams, Spot, spot, Line, Talk}
-use Rattle.xr_channels.specs.Wires.{ends_in, tokens_in, tokens_for, place, Ghosts, line, IsWired}
+use Rattle.xr_channels.specs.Phases.{Question, Phase, between, sends_end, awaits_ack, checks_end, sends_ack, was_closed, streams, SideState, side_state, Direction, TransitRel}
+use Rattle.xr_channels.specs.Channels.{ends_in, tokens_in, tokens_for, end_of_side, Ghosts, direction_to, IsWired}
 use Rattle.xr_channels.specs.Balance.{credits_in, credits_at, IsEight, Local}
 use Rattle.xr_channels.proofs.All.Begins.{boot_links}
 use Rattle.xr_channels.proofs.All.Frames.{parcels, twice}
@@ -23,7 +23,7 @@ use Rattle.xr_channels.proofs.All.Near.{NearEnd}
 
 -- A side is in a piece, and its row doesn't pause.
 abbrev pub Goes : List CoreState → List Inboxes → Ghosts → (channel : ℕ) → Pair → Side → Type 0
-Goes cores boxes g k p side = Enabled (g.spots k side).phase (line cores no_links boxes g p k side) (credits_at cores (place p side).core (place p side).end)
+Goes cores boxes g k p side = Enabled (g.side_states k side).phase (direction_to cores no_links boxes g p k side) (credits_at cores (end_of_side p side).core (end_of_side p side).end)
 
 module _ (near_end : NearEnd) where
   open near_end use {pairs, wired, cores, boxes, ghosts as g, local as now, line as k, pair as p, side, end, is_near as at}
@@ -32,36 +32,36 @@ module _ (near_end : NearEnd) where
   abbrev pub other : Side
   other = other_side side
 
-  abbrev pub there : Line
-  there = line cores no_links boxes g p k other
+  abbrev pub there : Direction
+  there = direction_to cores no_links boxes g p k other
 
-  abbrev pub here : Line
-  here = line cores no_links boxes g p k side
+  abbrev pub here : Direction
+  here = direction_to cores no_links boxes g p k side
 
-  abbrev pub r : Spot
-  r = g.spots k other
+  abbrev pub r : SideState
+  r = g.side_states k other
 
   abbrev pub credits_there : ℕ
-  credits_there = credits_at cores (place p other).core (place p other).end
+  credits_there = credits_at cores (end_of_side p other).core (end_of_side p other).end
 
   -- what stands between the sides
-  pub talk : (s : Spot) → g.spots k side ≡ s → Talk s r there here
+  pub talk : (s : SideState) → g.side_states k side ≡ s → TransitRel s r there here
   talk s x = (at_spot pairs wired cores no_links boxes g now.wires k p side at.channel s x).talk
 
   -- nothing is on a link
   pub nothing_out : there.link ≡ []
-  nothing_out = ap (tokens_for (place p other).end) (boot_links (place p (other_side other)).core (place p other).core)
+  nothing_out = ap (tokens_for (end_of_side p other).end) (boot_links (end_of_side p (other_side other)).core (end_of_side p other).core)
 
   pub nothing_in : here.link ≡ []
-  nothing_in = ap (tokens_for (place p side).end) (boot_links (place p other).core (place p side).core)
+  nothing_in = ap (tokens_for (end_of_side p side).end) (boot_links (end_of_side p other).core (end_of_side p side).core)
 
   -- the tokens at the end
   tokens_are : here.buffer ≡ end.tokens
-  tokens_are = ap (λ o. tokens_in (slice_get (ends_in o) (place p side).end)) at.at_core ∙ ap tokens_in at.at_end
+  tokens_are = ap (λ o. tokens_in (slice_get (ends_in o) (end_of_side p side).end)) at.at_core ∙ ap tokens_in at.at_end
 
   -- its credits
-  credits_are : credits_at cores (place p side).core (place p side).end ≡ end.credits
-  credits_are = ap (λ o. credits_in (slice_get (ends_in o) (place p side).end)) at.at_core ∙ ap credits_in at.at_end
+  credits_are : credits_at cores (end_of_side p side).core (end_of_side p side).end ≡ end.credits
+  credits_are = ap (λ o. credits_in (slice_get (ends_in o) (end_of_side p side).end)) at.at_core ∙ ap credits_in at.at_end
 
   -- the law of credits, of this side
   pub mine : end.credits + length there.buffer ≡ 8
@@ -70,7 +70,7 @@ module _ (near_end : NearEnd) where
   -- and of the other
   theirs : credits_there + length end.tokens ≡ 8
   theirs =
-      let sum : IsEight cores (place p other) (place p side) = subst (λ (z : Peer). IsEight cores (place p other) z) (ap (place p) (twice side)) (now.balanced.eight k p other at.channel) in
+      let sum : IsEight cores (end_of_side p other) (end_of_side p side) = subst (λ (z : Peer). IsEight cores (end_of_side p other) z) (ap (end_of_side p) (twice side)) (now.balanced.eight k p other at.channel) in
       let size = ap length tokens_are in omega (arith, sum, size)
 
   -- the other side has its credits where no token is here
@@ -91,51 +91,51 @@ module _ (near_end : NearEnd) where
   inside (inr two) = inr two.1
 
   -- OUT of a plain output
-  pub out_plain_paused : g.spots k side ≡ spot between false → nat_le 4 end.credits ≡ false → Goes cores boxes g k p other
-  out_plain_paused x few = outside (out_justified (spot between false) r there here credits_there (talk _ x) refl (talk _ x).outward.late nothing_out (none_asked r there here false (talk _ x)).0 (out_pause_full end.credits (length there.buffer) few mine))
+  pub out_plain_paused : g.side_states k side ≡ side_state between false → nat_le 4 end.credits ≡ false → Goes cores boxes g k p other
+  out_plain_paused x few = outside (out_justified (side_state between false) r there here credits_there (talk _ x) refl (talk _ x).outward.late nothing_out (none_asked r there here false (talk _ x)).0 (out_pause_full end.credits (length there.buffer) few mine))
 
   -- OUTCT END of a plain output
-  pub outct_end_paused : (v : ℕ) (i : Bool) → g.spots k side ≡ spot (sends_end v) i → nat_le 1 end.credits ≡ false → Goes cores boxes g k p other
+  pub outct_end_paused : (v : ℕ) (i : Bool) → g.side_states k side ≡ side_state (sends_end v) i → nat_le 1 end.credits ≡ false → Goes cores boxes g k p other
   outct_end_paused v i x few = let full = outct_pause_full end.credits (length there.buffer) few mine in output_end_justified v i r there here credits_there (talk _ x) nothing_out (omega (arith, full))
 
   -- OUTCT ACK of a plain input and of a slave's start
-  pub outct_ack_paused : (i : Bool) → g.spots k side ≡ spot sends_ack i → nat_le 1 end.credits ≡ false → Goes cores boxes g k p other
+  pub outct_ack_paused : (i : Bool) → g.side_states k side ≡ side_state sends_ack i → nat_le 1 end.credits ≡ false → Goes cores boxes g k p other
   outct_ack_paused i x few = answer_justified i r there here credits_there (talk _ x) nothing_out (outct_pause_full end.credits (length there.buffer) few mine)
 
   -- OUTCT OPEN of a master's start
-  pub outct_open_paused : g.spots k side ≡ spot between false → nat_le 1 end.credits ≡ false → Goes cores boxes g k p other
-  outct_open_paused x few = let full = outct_pause_full end.credits (length there.buffer) few mine in outside (out_justified (spot between false) r there here credits_there (talk _ x) refl (talk _ x).outward.late nothing_out (none_asked r there here false (talk _ x)).0 (omega (arith, full)))
+  pub outct_open_paused : g.side_states k side ≡ side_state between false → nat_le 1 end.credits ≡ false → Goes cores boxes g k p other
+  outct_open_paused x few = let full = outct_pause_full end.credits (length there.buffer) few mine in outside (out_justified (side_state between false) r there here credits_there (talk _ x) refl (talk _ x).outward.late nothing_out (none_asked r there here false (talk _ x)).0 (omega (arith, full)))
 
   -- OUT inside a transaction, or two words are unread
-  pub out_inside_paused : g.spots k side ≡ spot between true → nat_le 4 end.credits ≡ false → Goes cores boxes g k p other ⊎ (2 ≤ words_among (parcels boxes k other))
-  out_inside_paused x few = inside (out_justified (spot between true) r there here credits_there (talk _ x) refl (talk _ x).outward.late nothing_out (none_asked r there here true (talk _ x)).0 (out_pause_full end.credits (length there.buffer) few mine))
+  pub out_inside_paused : g.side_states k side ≡ side_state between true → nat_le 4 end.credits ≡ false → Goes cores boxes g k p other ⊎ (2 ≤ words_among (parcels boxes k other))
+  out_inside_paused x few = inside (out_justified (side_state between true) r there here credits_there (talk _ x) refl (talk _ x).outward.late nothing_out (none_asked r there here true (talk _ x)).0 (out_pause_full end.credits (length there.buffer) few mine))
 
   -- OUTCT END of a master's end, or two words are unread
-  pub outct_end_master_paused : g.spots k side ≡ spot between true → nat_le 1 end.credits ≡ false → Goes cores boxes g k p other ⊎ (2 ≤ words_among (parcels boxes k other))
-  outct_end_master_paused x few = let full = outct_pause_full end.credits (length there.buffer) few mine in inside (out_justified (spot between true) r there here credits_there (talk _ x) refl (talk _ x).outward.late nothing_out (none_asked r there here true (talk _ x)).0 (omega (arith, full)))
+  pub outct_end_master_paused : g.side_states k side ≡ side_state between true → nat_le 1 end.credits ≡ false → Goes cores boxes g k p other ⊎ (2 ≤ words_among (parcels boxes k other))
+  outct_end_master_paused x few = let full = outct_pause_full end.credits (length there.buffer) few mine in inside (out_justified (side_state between true) r there here credits_there (talk _ x) refl (talk _ x).outward.late nothing_out (none_asked r there here true (talk _ x)).0 (omega (arith, full)))
 
   -- while an OUT or OUTCT END inside has credits, fewer than two words are unread
-  pub inside_has_room : g.spots k side ≡ spot between true → nat_le 1 end.credits ≡ true → words_among (parcels boxes k other) < 2
+  pub inside_has_room : g.side_states k side ≡ side_state between true → nat_le 1 end.credits ≡ true → words_among (parcels boxes k other) < 2
   inside_has_room x some = has_room r there here (talk _ x) (let b = leb-true 1 end.credits some in let sum = mine in let none = ap length nothing_out in omega (arith, b, sum, none))
 
   -- OUTCT ACK of a slave's end
-  pub outct_ack_slave_paused : (ps : List Parcel) → g.spots k side ≡ spot was_closed true → parcels boxes k side ≡ closing ∷ ps → nat_le 1 end.credits ≡ false → Goes cores boxes g k p other
+  pub outct_ack_slave_paused : (ps : List Parcel) → g.side_states k side ≡ side_state was_closed true → parcels boxes k side ≡ closing ∷ ps → nat_le 1 end.credits ≡ false → Goes cores boxes g k p other
   outct_ack_slave_paused ps x found few = let full = outct_pause_full end.credits (length there.buffer) few mine in slave_end_justified r there here ps credits_there (talk _ x) found (omega (arith, full))
 
   -- CHKCT ACK
-  pub chkct_ack_paused : (z : Question) (i : Bool) → g.spots k side ≡ spot (awaits_ack z) i → end.tokens ≡ [] → (parcels boxes k side ≡ []) ⊎ Goes cores boxes g k p other
+  pub chkct_ack_paused : (z : Question) (i : Bool) → g.side_states k side ≡ side_state (awaits_ack z) i → end.tokens ≡ [] → (parcels boxes k side ≡ []) ⊎ Goes cores boxes g k p other
   chkct_ack_paused z i x none = ack_justified z i r there here credits_there (talk _ x) nothing_out nothing_in (none_here none) (some_there none)
 
   -- CHKCT END of a plain input
-  pub chkct_end_paused : (i : Bool) → g.spots k side ≡ spot checks_end i → end.tokens ≡ [] → Goes cores boxes g k p other
+  pub chkct_end_paused : (i : Bool) → g.side_states k side ≡ side_state checks_end i → end.tokens ≡ [] → Goes cores boxes g k p other
   chkct_end_paused i x none = end_check_justified i r there here credits_there (talk _ x) nothing_in (none_here none) (some_there none)
 
   -- IN, and CHKCT OPEN and CHKCT END of a slave, between pieces
-  pub in_paused : (i : Bool) → g.spots k side ≡ spot between i → take_word end.tokens ≡ NotYet → length end.tokens < 4 → parcels boxes k side ≡ []
-  in_paused i x waits few = input_justified (spot between i) r there here refl refl refl refl (talk _ x) nothing_in (ap take_word tokens_are ∙ waits) (let size = ap length tokens_are in omega (arith, few, size))
+  pub in_paused : (i : Bool) → g.side_states k side ≡ side_state between i → take_word end.tokens ≡ NotYet → length end.tokens < 4 → parcels boxes k side ≡ []
+  in_paused i x waits few = input_justified (side_state between i) r there here refl refl refl refl (talk _ x) nothing_in (ap take_word tokens_are ∙ waits) (let size = ap length tokens_are in omega (arith, few, size))
 
   -- where no token is there
-  pub slave_check_paused : (i : Bool) → g.spots k side ≡ spot between i → end.tokens ≡ [] → parcels boxes k side ≡ []
+  pub slave_check_paused : (i : Bool) → g.side_states k side ≡ side_state between i → end.tokens ≡ [] → parcels boxes k side ≡ []
   slave_check_paused i x none = in_paused i x (ap take_word none) (let size = ap length none in omega (arith, size))
 
   -- what lets the row of a side in a piece go on; other rows are in no piece
@@ -149,14 +149,14 @@ module _ (near_end : NearEnd) where
   MayGo streams = ⊥
 
   -- so the row of a side that goes doesn't pause
-  pub goes : (f : Phase) → (g.spots k side).phase ≡ f → Goes cores boxes g k p side → MayGo f
-  goes f e go = by f here _ (subst (λ y. Enabled y here (credits_at cores (place p side).core (place p side).end)) e go) tokens_are credits_are
+  pub goes : (f : Phase) → (g.side_states k side).phase ≡ f → Goes cores boxes g k p side → MayGo f
+  goes f e go = by f here _ (subst (λ y. Enabled y here (credits_at cores (end_of_side p side).core (end_of_side p side).end)) e go) tokens_are credits_are
     where
       some : (n : ℕ) → 1 ≤ n → (b : Bool) → nat_le 1 n ≡ b → b ≡ true
       some n h true x = refl
       some n h false x = let few = leb-false 1 n x in absurd (omega (arith, h, few))
 
-      by : (f : Phase) (l : Line) (n : ℕ) → Enabled f l n → l.buffer ≡ end.tokens → n ≡ end.credits → MayGo f
+      by : (f : Phase) (l : Direction) (n : ℕ) → Enabled f l n → l.buffer ≡ end.tokens → n ≡ end.credits → MayGo f
       by f l n (may_end v _ _ h) x y = some end.credits (omega (arith, h, y)) (nat_le 1 end.credits) refl
       by f l n (may_check q _ _ h) x y = let size = ap length x in omega (arith, h, size)
       by f l n (may_check_end _ _ h) x y = let size = ap length x in omega (arith, h, size)

@@ -8,8 +8,8 @@ use Rattle.xs_instr.specs.declared.state.ChanEnd.{ChanEnd}
 use Rattle.xs_instr.specs.declared.state.CoreState.{CoreState}
 use Rattle.xs_instr.specs.Machine.{no_links}
 use Rattle.xc_meaning.specs.States.Channels.{Side, first, second, other_side, Inboxes}
-use Rattle.xr_channels.specs.Phases.{Phase, Spot, spot, ahead, asked, unread, unsent, Line, Talk}
-use Rattle.xr_channels.specs.Wires.{place, Ghosts, line, IsWired}
+use Rattle.xr_channels.specs.Phases.{Phase, SideState, side_state, ahead, asked, unread, unsent, Direction, TransitRel}
+use Rattle.xr_channels.specs.Channels.{end_of_side, Ghosts, direction_to, IsWired}
 use Rattle.xr_channels.specs.Balance.{Local}
 use Rattle.xr_channels.proofs.All.Frames.{parcels}
 use Rattle.xr_channels.proofs.Tokens.Lengths.{out_pause_full, outct_pause_full}
@@ -19,40 +19,40 @@ use Rattle.xr_channels.proofs.Sides.Plain as sides
 use Rattle.xr_channels.proofs.Sides.Plain.{IsPlain}
 
 module _ (near_end : NearEnd)
-    (f h : Phase) (is : near_end.ghosts.spots near_end.line near_end.side ≡ spot f false)
-    (other_is : near_end.ghosts.spots near_end.line (other_side near_end.side) ≡ spot h false) where
+    (f h : Phase) (is : near_end.ghosts.side_states near_end.line near_end.side ≡ side_state f false)
+    (other_is : near_end.ghosts.side_states near_end.line (other_side near_end.side) ≡ side_state h false) where
   open near_end use {pairs, cores, boxes, ghosts as g, local as now, line as k, pair as p, side, core, end, is_near as at}
 
   abbrev other : Side
   other = other_side side
 
-  abbrev r : Spot
-  r = g.spots k other
+  abbrev r : SideState
+  r = g.side_states k other
 
-  abbrev there : Line
-  there = line cores no_links boxes g p k other
+  abbrev there : Direction
+  there = direction_to cores no_links boxes g p k other
 
-  abbrev here : Line
-  here = line cores no_links boxes g p k side
+  abbrev here : Direction
+  here = direction_to cores no_links boxes g p k side
 
-  talk : Talk (spot f false) r there here
-  talk = pauses.talk near_end (spot f false) is
+  talk : TransitRel (side_state f false) r there here
+  talk = pauses.talk near_end (side_state f false) is
 
   -- within a core nothing is late
   on_time : there.late ≡ []
   on_time = by side at.channel at.near
     where
-      by : (s : Side) → slice_get pairs k ≡ Some p → (place p (other_side s)).core ≡ (place p s).core → g.late k (other_side s) ≡ []
+      by : (s : Side) → slice_get pairs k ≡ Some p → (end_of_side p (other_side s)).core ≡ (end_of_side p s).core → g.late k (other_side s) ≡ []
       by first x y = now.wires.prompt k p second x y
       by second x y = now.wires.prompt k p first x y
 
   -- Both sides are in plain transfers.
   module _ (f_plain : IsPlain f) (h_plain : IsPlain h) where
     r_plain : IsPlain r.phase
-    r_plain = subst IsPlain (ap (λ (s : Spot). s.phase) (sym other_is)) h_plain
+    r_plain = subst IsPlain (ap (λ (s : SideState). s.phase) (sym other_is)) h_plain
 
     r_outside : r.inside ≡ false
-    r_outside = ap (λ (s : Spot). s.inside) other_is
+    r_outside = ap (λ (s : SideState). s.inside) other_is
 
     credits : end.credits + length there.buffer ≡ 8
     credits = pauses.mine near_end
@@ -64,20 +64,20 @@ module _ (near_end : NearEnd)
     pub has_credit : nat_le 1 end.credits ≡ false → ⊥
     has_credit few =
         let full = outct_pause_full end.credits (length there.buffer) few credits in
-        let seven = sides.at_most_seven (spot f false) r there here talk f_plain r_plain refl r_outside nothing_out on_time in
+        let seven = sides.at_most_seven (side_state f false) r there here talk f_plain r_plain refl r_outside nothing_out on_time in
         omega (arith, full, seven)
 
     -- and OUT has four, where nothing was asked before
     pub has_credits : asked f ≡ [] → nat_le 4 end.credits ≡ false → ⊥
     has_credits none few =
         let full = out_pause_full end.credits (length there.buffer) few credits in
-        let two = sides.at_most_two (spot f false) r there here talk f_plain r_plain refl r_outside nothing_out on_time none in
+        let two = sides.at_most_two (side_state f false) r there here talk f_plain r_plain refl r_outside nothing_out on_time none in
         omega (arith, full, two)
 
   -- The other side has sent all, and no token is at the end.
   module _ (all_sent : unsent h ≡ []) (none : end.tokens ≡ []) where
     sent_there : unsent r.phase ≡ []
-    sent_there = ap (λ (s : Spot). unsent s.phase) other_is ∙ all_sent
+    sent_there = ap (λ (s : SideState). unsent s.phase) other_is ∙ all_sent
 
     nothing_in : here.link ≡ []
     nothing_in = pauses.nothing_in near_end
@@ -87,12 +87,12 @@ module _ (near_end : NearEnd)
 
     -- the inbox is empty
     pub nothing_came : ahead f ≡ [] → unread f ≡ [] → parcels boxes k side ≡ []
-    nothing_came taken owed = sides.nothing_came (spot f false) r there here talk sent_there nothing_in nothing_here taken owed
+    nothing_came taken owed = sides.nothing_came (side_state f false) r there here talk sent_there nothing_in nothing_here taken owed
 
     -- and no token has still to be taken
     pub nothing_owed : ahead f ≡ [] → unread f ≡ []
     nothing_owed taken =
-        by (unread f) (let owed = sides.nothing_owed (spot f false) r there here talk sent_there nothing_in nothing_here in let size = ap length taken in omega (arith, owed, size))
+        by (unread f) (let owed = sides.nothing_owed (side_state f false) r there here talk sent_there nothing_in nothing_here in let size = ap length taken in omega (arith, owed, size))
       where
         by : {A : Type 0} (xs : List A) → length xs ≡ 0 → xs ≡ []
         by [] e = refl

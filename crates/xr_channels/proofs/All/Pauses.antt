@@ -4,20 +4,20 @@ use Rattle.std.specs.Prelude.{◌⊎◌}
 use Rattle.xs_instr.specs.declared.state.Token.{Token}
 use Rattle.xs_instr.specs.Ends.{word_tokens, control_token, data_token, take_word, Control, NotYet}
 use Rattle.xc_meaning.specs.States.Channels.{Parcel, offer, opening, word, closing, taken, words_among}
-use Rattle.xr_channels.specs.Phases.{END, ACK, OPEN, Question, offers, closes, Phase, between, sends_end, awaits_ack, checks_end, sends_ack, was_closed, streams, Spot, spot, encode, encodes, unsent, unread, ahead, asked, turns, reads_by, LateBy, Path, questions, answers, Asked, is_open, is_answered, Line, Talk}
+use Rattle.xr_channels.specs.Phases.{END, ACK, OPEN, Question, offers, closes, Phase, between, sends_end, awaits_ack, checks_end, sends_ack, was_closed, streams, SideState, side_state, encode, encodes, unsent, unread, ahead, asked, switches_mode, reads_by, LateBy, Path, questions, answers, Asked, is_open, is_answered, Direction, TransitRel}
 use Rattle.xr_channels.proofs.Tokens.Lengths.{control_no_data, end_no_ack, end_no_open, ack_no_open, length_no_question, length_one_offer, OnlyOffers, stays, unread_length, few_answers, no_answers, nothing_late, steady_reads, small_unread}
 
 -- a side in mid-piece whose row doesn't pause
-pub data Enabled : Phase → (come : Line) → (credits : ℕ) → Type 0 where
-  may_end : (v : ℕ) (l : Line) (n : ℕ) → 1 ≤ n → Enabled (sends_end v) l n
-  may_check : (q : Question) (l : Line) (n : ℕ) → 1 ≤ length l.buffer → Enabled (awaits_ack q) l n
-  may_check_end : (l : Line) (n : ℕ) → 1 ≤ length l.buffer → Enabled checks_end l n
-  may_answer : (l : Line) (n : ℕ) → 1 ≤ n → Enabled sends_ack l n
-  may_close : (l : Line) (n : ℕ) → 1 ≤ n → Enabled was_closed l n
+pub data Enabled : Phase → (come : Direction) → (credits : ℕ) → Type 0 where
+  may_end : (v : ℕ) (l : Direction) (n : ℕ) → 1 ≤ n → Enabled (sends_end v) l n
+  may_check : (q : Question) (l : Direction) (n : ℕ) → 1 ≤ length l.buffer → Enabled (awaits_ack q) l n
+  may_check_end : (l : Direction) (n : ℕ) → 1 ≤ length l.buffer → Enabled checks_end l n
+  may_answer : (l : Direction) (n : ℕ) → 1 ≤ n → Enabled sends_ack l n
+  may_close : (l : Direction) (n : ℕ) → 1 ≤ n → Enabled was_closed l n
 
 -- OUT pauses, or OUTCT OPEN or OUTCT END of a master: at least 5 tokens are unread. The other side's CHKCT ACK is enabled, or two words are
 -- unread. The premises hold of a side between pieces and of a streaming one.
-pub out_justified : (s r : Spot) (go come : Line) (n : ℕ) → Talk s r go come → unsent s.phase ≡ [] → go.late ≡ [] → go.link ≡ [] → questions go.inbox ≡ [] → 5 ≤ length go.buffer → Enabled r.phase go n ⊎ ((s.inside ≡ true) × (2 ≤ words_among go.inbox))
+pub out_justified : (s r : SideState) (go come : Direction) (n : ℕ) → TransitRel s r go come → unsent s.phase ≡ [] → go.late ≡ [] → go.link ≡ [] → questions go.inbox ≡ [] → 5 ≤ length go.buffer → Enabled r.phase go n ⊎ ((s.inside ≡ true) × (2 ≤ words_among go.inbox))
 out_justified s r go come n h u late link q many = by r.phase refl
   where
     sum : length (ahead r.phase) + (length go.buffer + length (unsent s.phase)) ≡ length (unread r.phase) + length (encodes go.inbox)
@@ -33,9 +33,9 @@ out_justified s r go come n h u late link q many = by r.phase refl
     offers_only = subst OnlyOffers (sym q) tt
 
     -- a phase without a turn
-    steady : (f : Phase) → r.phase ≡ f → turns f ≡ false → (reads_by f r.inside ≡ false) ⊎ ((answers go.inbox ≡ 0) × (length (unread f) ≡ 0)) → length (unread f) ≤ 1 → Enabled f go n ⊎ ((s.inside ≡ true) × (2 ≤ words_among go.inbox))
+    steady : (f : Phase) → r.phase ≡ f → switches_mode f ≡ false → (reads_by f r.inside ≡ false) ⊎ ((answers go.inbox ≡ 0) × (length (unread f) ≡ 0)) → length (unread f) ≤ 1 → Enabled f go n ⊎ ((s.inside ≡ true) × (2 ≤ words_among go.inbox))
     steady f e t which small =
-        let path : Path false (reads_by f r.inside) go.inbox s.inside = subst (λ b. Path b (reads_by f r.inside) go.inbox s.inside) t (subst (λ y. Path (turns y) (reads_by y r.inside) go.inbox s.inside) e h.outward.path) in
+        let path : Path false (reads_by f r.inside) go.inbox s.inside = subst (λ b. Path b (reads_by f r.inside) go.inbox s.inside) t (subst (λ y. Path (switches_mode y) (reads_by y r.inside) go.inbox s.inside) e h.outward.path) in
         let st = stays (reads_by f r.inside) go.inbox s.inside offers_only path in
         let un = ap (λ y. length (unread y)) e in
         inside_by s.inside refl st which un small
@@ -61,11 +61,11 @@ out_justified s r go come n h u late link q many = by r.phase refl
     by streams e = subst (λ y. Enabled y go n ⊎ ((s.inside ≡ true) × (2 ≤ words_among go.inbox))) (sym e) (steady streams e refl (inr (asks streams e refl, refl)) (omega arith))
 
 -- CHKCT ACK pauses: the inbox is empty, or the other side is in a piece and goes on
-pub ack_justified : (q : Question) (i : Bool) (r : Spot) (go come : Line) (n : ℕ) → Talk (spot (awaits_ack q) i) r go come → go.link ≡ [] → come.link ≡ [] → come.buffer ≡ [] → 1 ≤ n → (come.inbox ≡ []) ⊎ Enabled r.phase go n
+pub ack_justified : (q : Question) (i : Bool) (r : SideState) (go come : Direction) (n : ℕ) → TransitRel (side_state (awaits_ack q) i) r go come → go.link ≡ [] → come.link ≡ [] → come.buffer ≡ [] → 1 ≤ n → (come.inbox ≡ []) ⊎ Enabled r.phase go n
 ack_justified q i r go come n h out_link link buffer some = by r.phase refl
   where
     empty : (f : Phase) → r.phase ≡ f → unsent f ≡ [] → come.inbox ≡ []
-    empty f e u = (nothing_late r (spot (awaits_ack q) i) come h.homeward (ap unsent e ∙ u) link).1 buffer refl refl
+    empty f e u = (nothing_late r (side_state (awaits_ack q) i) come h.homeward (ap unsent e ∙ u) link).1 buffer refl refl
 
     by : (f : Phase) → r.phase ≡ f → (come.inbox ≡ []) ⊎ Enabled r.phase go n
     by between e = inl (empty between e refl)
@@ -75,8 +75,8 @@ ack_justified q i r go come n h out_link link buffer some = by r.phase refl
       where
         has_end : 1 ≤ length go.buffer
         has_end =
-            let late = (nothing_late (spot (awaits_ack q) i) r go h.outward refl out_link).0 in
-            let sum = unread_length (spot (awaits_ack q) i) r go h.outward out_link late in
+            let late = (nothing_late (side_state (awaits_ack q) i) r go h.outward refl out_link).0 in
+            let sum = unread_length (side_state (awaits_ack q) i) r go h.outward out_link late in
             let a = ap (λ y. length (ahead y)) e in
             let u = ap (λ y. length (unread y)) e in
             omega (arith, sum, a, u)
@@ -85,7 +85,7 @@ ack_justified q i r go come n h out_link link buffer some = by r.phase refl
     by streams e = inl (empty streams e refl)
 
 -- CHKCT END of a plain input pauses: the other side has still to send it, and goes on
-pub end_check_justified : (i : Bool) (r : Spot) (go come : Line) (n : ℕ) → Talk (spot checks_end i) r go come → come.link ≡ [] → come.buffer ≡ [] → 1 ≤ n → Enabled r.phase go n
+pub end_check_justified : (i : Bool) (r : SideState) (go come : Direction) (n : ℕ) → TransitRel (side_state checks_end i) r go come → come.link ≡ [] → come.buffer ≡ [] → 1 ≤ n → Enabled r.phase go n
 end_check_justified i r go come n h link buffer some = by r.phase refl
   where
     more_is : h.homeward.more ≡ END ∷ encodes come.inbox
@@ -110,7 +110,7 @@ end_check_justified i r go come n h link buffer some = by r.phase refl
     by streams e = subst (λ y. Enabled y go n) (sym e) (none streams e refl)
 
 -- OUTCT ACK of a slave's end pauses: the master awaits it, and a token is there
-pub slave_end_justified : (r : Spot) (go come : Line) (ps : List Parcel) (n : ℕ) → Talk (spot was_closed true) r go come → come.inbox ≡ closing ∷ ps → 1 ≤ length go.buffer → Enabled r.phase go n
+pub slave_end_justified : (r : SideState) (go come : Direction) (ps : List Parcel) (n : ℕ) → TransitRel (side_state was_closed true) r go come → come.inbox ≡ closing ∷ ps → 1 ≤ length go.buffer → Enabled r.phase go n
 slave_end_justified r go come ps n h found many = by r.phase refl h.theirs
   where
     first_q : questions (come.inbox ++ come.late) ≡ closes ∷ questions (ps ++ come.late)
@@ -134,11 +134,11 @@ slave_end_justified r go come ps n h found many = by r.phase refl h.theirs
         offering (is_answered q a) = let z : closes ∷ questions (ps ++ come.late) ≡ [] = sym first_q ∙ q in cc
 
 -- OUTCT END of a plain output pauses: the other side's CHKCT ACK is enabled
-pub output_end_justified : (v : ℕ) (i : Bool) (r : Spot) (go come : Line) (n : ℕ) → Talk (spot (sends_end v) i) r go come → go.link ≡ [] → 8 ≤ length go.buffer → Enabled r.phase go n
+pub output_end_justified : (v : ℕ) (i : Bool) (r : SideState) (go come : Direction) (n : ℕ) → TransitRel (side_state (sends_end v) i) r go come → go.link ≡ [] → 8 ≤ length go.buffer → Enabled r.phase go n
 output_end_justified v i r go come n h link many = by r.phase refl
   where
-    s : Spot
-    s = spot (sends_end v) i
+    s : SideState
+    s = side_state (sends_end v) i
 
     late : go.late ≡ []
     late = choose h.outward.late.1
@@ -152,7 +152,7 @@ output_end_justified v i r go come n h link many = by r.phase refl
             absurd (omega (arith, a, b))
 
     sum : length (ahead r.phase) + (length go.buffer + 1) ≡ length (unread r.phase) + length (encodes go.inbox)
-    sum = unread_length (spot (sends_end v) i) r go h.outward link late
+    sum = unread_length (side_state (sends_end v) i) r go h.outward link late
 
     few : answers go.inbox ≤ 1
     few = few_answers r.phase (come.inbox ++ come.late) go.inbox h.theirs
@@ -171,9 +171,9 @@ output_end_justified v i r go come n h link many = by r.phase refl
             let q1 : questions go.inbox ≡ [] = sym (ap questions inbox_only) ∙ q in
             let l = length_no_question go.inbox q1 in (subst OnlyOffers (sym q1) tt, omega (arith, l))
 
-    never : (f : Phase) → r.phase ≡ f → turns f ≡ false → Enabled f go n
+    never : (f : Phase) → r.phase ≡ f → switches_mode f ≡ false → Enabled f go n
     never f e t =
-        let st = steady_reads f r (spot (sends_end v) i) go e t count.0 h.outward in
+        let st = steady_reads f r (side_state (sends_end v) i) go e t count.0 h.outward in
         let w = st.1 (st.0 ∙ h.outward.late.0) in
         let c = count.1 in
         let u = small_unread r.phase in
@@ -189,14 +189,14 @@ output_end_justified v i r go come n h link many = by r.phase refl
     by streams e = subst (λ y. Enabled y go n) (sym e) (never streams e refl)
 
 -- OUTCT ACK of a plain input or of a slave's start pauses: the other side's CHKCT ACK is enabled
-pub answer_justified : (i : Bool) (r : Spot) (go come : Line) (n : ℕ) → Talk (spot sends_ack i) r go come → go.link ≡ [] → length go.buffer ≡ 8 → Enabled r.phase go n
+pub answer_justified : (i : Bool) (r : SideState) (go come : Direction) (n : ℕ) → TransitRel (side_state sends_ack i) r go come → go.link ≡ [] → length go.buffer ≡ 8 → Enabled r.phase go n
 answer_justified i r go come n h link many = by r.phase refl
   where
     late : go.late ≡ []
     late = h.outward.late
 
     sum : length (ahead r.phase) + (length go.buffer + 1) ≡ length (unread r.phase) + length (encodes go.inbox)
-    sum = unread_length (spot sends_ack i) r go h.outward link late
+    sum = unread_length (side_state sends_ack i) r go h.outward link late
 
     few : answers go.inbox ≤ 1
     few = few_answers r.phase (come.inbox ++ come.late) go.inbox h.theirs
@@ -211,10 +211,10 @@ answer_justified i r go come n h link many = by r.phase refl
     len : length (encodes go.inbox) ≡ 4 * words_among go.inbox + answers go.inbox
     len = length_no_question go.inbox q
 
-    steady : (f : Phase) → r.phase ≡ f → turns f ≡ false → (reads_by f r.inside ≡ i) × (reads_by f r.inside ≡ false → words_among go.inbox ≡ 0)
-    steady f e t = steady_reads f r (spot sends_ack i) go e t (subst OnlyOffers (sym q) tt) h.outward
+    steady : (f : Phase) → r.phase ≡ f → switches_mode f ≡ false → (reads_by f r.inside ≡ i) × (reads_by f r.inside ≡ false → words_among go.inbox ≡ 0)
+    steady f e t = steady_reads f r (side_state sends_ack i) go e t (subst OnlyOffers (sym q) tt) h.outward
 
-    outside : (f : Phase) → r.phase ≡ f → turns f ≡ false → reads_by f r.inside ≡ false → Enabled f go n
+    outside : (f : Phase) → r.phase ≡ f → switches_mode f ≡ false → reads_by f r.inside ≡ false → Enabled f go n
     outside f e t z =
         let w = (steady f e t).1 z in
         let u = small_unread r.phase in
@@ -252,7 +252,7 @@ answer_justified i r go come n h link many = by r.phase refl
     by streams e = subst (λ y. Enabled y go n) (sym e) (asks_none streams e refl refl)
 
 -- IN, or CHKCT of a slave, pauses: the inbox is empty
-pub input_justified : (s r : Spot) (go come : Line) → ahead s.phase ≡ [] → unread s.phase ≡ [] → asked s.phase ≡ [] → turns s.phase ≡ false → Talk s r go come → come.link ≡ [] → take_word come.buffer ≡ NotYet → length come.buffer < 4 → come.inbox ≡ []
+pub input_justified : (s r : SideState) (go come : Direction) → ahead s.phase ≡ [] → unread s.phase ≡ [] → asked s.phase ≡ [] → switches_mode s.phase ≡ false → TransitRel s r go come → come.link ≡ [] → take_word come.buffer ≡ NotYet → length come.buffer < 4 → come.inbox ≡ []
 input_justified s r go come a u k t h link waits few = by come.inbox refl
   where
     near : come.buffer ++ h.homeward.more ≡ encodes come.inbox

@@ -11,7 +11,7 @@ use Rattle.xs_instr.specs.Ends.{Peer, all_arrive, tokens_to, credits_to}
 use Rattle.xs_instr.specs.Machine.{boot, boot_end, parts_in}
 use Rattle.xs_instr.specs.Valid.{Valid}
 use Rattle.xc_meaning.specs.States.Channels.{Side, first, second, other_side}
-use Rattle.xr_channels.specs.Wires.{ends_in, tokens_in, tokens_at, place, IsWired}
+use Rattle.xr_channels.specs.Channels.{ends_in, tokens_in, tokens_at, end_of_side, IsWired}
 use Rattle.xr_channels.specs.Balance.{credits_in, credits_at, IsEight, Balanced}
 use Rattle.xr_channels.proofs.Tokens.Views.{get_set, get_set_other, same_num}
 use Rattle.xr_channels.proofs.Tokens.Changes.{peer}
@@ -29,8 +29,8 @@ module _ (pairs : List Pair) (cores : List CoreState) (b : Balanced pairs cores)
   -- a trap, a tick and each step that leaves the ends of its core
   pub balanced_still : (c : ℕ) (core left : CoreState) → slice_get cores c ≡ Some core → left.ends ≡ core.ends → Balanced pairs (slice_set cores c left)
   balanced_still c core left at_c same = record {
-    ends = λ k p side at_k. let old = b.ends k p side at_k in let size = ap length (ends_same (place p side).core) in omega (arith, old, size);
-    eight = λ k p side at_k. eight_at (place p side) (place p (other_side side)) (b.eight k p side at_k);
+    ends = λ k p side at_k. let old = b.ends k p side at_k in let size = ap length (ends_same (end_of_side p side).core) in omega (arith, old, size);
+    eight = λ k p side at_k. eight_at (end_of_side p side) (end_of_side p (other_side side)) (b.eight k p side at_k);
   }
     where
       ends_same : (x : ℕ) → ends_in (slice_get (slice_set cores c left) x) ≡ ends_in (slice_get cores x)
@@ -49,38 +49,38 @@ module _ (pairs : List Pair) (cores : List CoreState) (b : Balanced pairs cores)
   module _ (wired : IsWired pairs) (k : ℕ) (p : Pair) (side : Side) (at_k : slice_get pairs k ≡ Some p) where
     -- the two ends of a channel
     abbrev pub here : Peer
-    here = place p side
+    here = end_of_side p side
 
     abbrev pub there : Peer
-    there = place p (other_side side)
+    there = end_of_side p (other_side side)
 
     -- Only the two ends of one channel change.
     balanced_next : (cores' : List CoreState) → ((x : ℕ) → length (ends_in (slice_get cores' x)) ≡ length (ends_in (slice_get cores x))) → ((x f : ℕ) → peer x f ≢ here → peer x f ≢ there → IsSame cores cores' x f) → IsEight cores' here there → IsEight cores' there here → Balanced pairs cores'
     balanced_next cores' sizes others mine theirs = record {
-      ends = λ j p' s at_j. let old = b.ends j p' s at_j in let size = sizes (place p' s).core in omega (arith, old, size);
+      ends = λ j p' s at_j. let old = b.ends j p' s at_j in let size = sizes (end_of_side p' s).core in omega (arith, old, size);
       eight = λ j p' s at_j. by j p' s at_j (same_num k j);
     }
       where
-        both : (s x : Side) → side ≡ x → IsEight cores' (place p s) (place p (other_side s))
-        both first first e = subst (λ z. IsEight cores' (place p z) (place p (other_side z))) e mine
-        both second second e = subst (λ z. IsEight cores' (place p z) (place p (other_side z))) e mine
-        both first second e = subst (λ z. IsEight cores' (place p (other_side z)) (place p z)) e theirs
-        both second first e = subst (λ z. IsEight cores' (place p (other_side z)) (place p z)) e theirs
+        both : (s x : Side) → side ≡ x → IsEight cores' (end_of_side p s) (end_of_side p (other_side s))
+        both first first e = subst (λ z. IsEight cores' (end_of_side p z) (end_of_side p (other_side z))) e mine
+        both second second e = subst (λ z. IsEight cores' (end_of_side p z) (end_of_side p (other_side z))) e mine
+        both first second e = subst (λ z. IsEight cores' (end_of_side p (other_side z)) (end_of_side p z)) e theirs
+        both second first e = subst (λ z. IsEight cores' (end_of_side p (other_side z)) (end_of_side p z)) e theirs
 
-        away : (j : ℕ) (p' : Pair) (s x : Side) → slice_get pairs j ≡ Some p' → k ≢ j → place p' s ≢ place p x
+        away : (j : ℕ) (p' : Pair) (s x : Side) → slice_get pairs j ≡ Some p' → k ≢ j → end_of_side p' s ≢ end_of_side p x
         away j p' s x at_j ne e = ne (sym (wired.once j p' s k p x at_j at_k e).0)
 
-        by : (j : ℕ) (p' : Pair) (s : Side) → slice_get pairs j ≡ Some p' → (k ≡ j) ⊎ (k ≢ j) → IsEight cores' (place p' s) (place p' (other_side s))
+        by : (j : ℕ) (p' : Pair) (s : Side) → slice_get pairs j ≡ Some p' → (k ≡ j) ⊎ (k ≢ j) → IsEight cores' (end_of_side p' s) (end_of_side p' (other_side s))
         by j p' s at_j (inl e) =
             let same : p ≡ p' = some_is p p' (sym at_k ∙ subst (λ v. slice_get pairs v ≡ Some p') (sym e) at_j) in
-            subst (λ v. IsEight cores' (place v s) (place v (other_side s))) same (both s side refl)
+            subst (λ v. IsEight cores' (end_of_side v s) (end_of_side v (other_side s))) same (both s side refl)
           where
             some_is : (a b : Pair) → Some a ≡ Some b → a ≡ b
             some_is a b z = cc
         by j p' s at_j (inr ne) =
             let old = b.eight j p' s at_j in
-            let credits = (others (place p' s).core (place p' s).end (away j p' s side at_j ne) (away j p' s (other_side side) at_j ne)).credits in
-            let tokens = ap length (others (place p' (other_side s)).core (place p' (other_side s)).end (away j p' (other_side s) side at_j ne) (away j p' (other_side s) (other_side side) at_j ne)).tokens in
+            let credits = (others (end_of_side p' s).core (end_of_side p' s).end (away j p' s side at_j ne) (away j p' s (other_side side) at_j ne)).credits in
+            let tokens = ap length (others (end_of_side p' (other_side s)).core (end_of_side p' (other_side s)).end (away j p' (other_side s) side at_j ne) (away j p' (other_side s) (other_side side) at_j ne)).tokens in
             omega (arith, old, credits, tokens)
 
     -- A row of a thread at its end, with the other end on its core.
@@ -101,7 +101,7 @@ module _ (pairs : List Pair) (cores : List CoreState) (b : Balanced pairs cores)
       mine = b.eight k p side at_k
 
       theirs : IsEight cores there here
-      theirs = subst (λ q. IsEight cores there q) (ap (place p) (twice side)) (b.eight k p (other_side side) at_k)
+      theirs = subst (λ q. IsEight cores there q) (ap (end_of_side p) (twice side)) (b.eight k p (other_side side) at_k)
 
       tokens_were : tokens_at cores here.core here.end ≡ end.tokens
       tokens_were = ap (λ o. tokens_in (slice_get (ends_in o) here.end)) at_c ∙ ap tokens_in at_e
@@ -171,13 +171,13 @@ boot_credits (suc n) (suc e) lt = boot_credits n e (omega (arith, lt))
 -- so the law holds at the start
 pub balanced_begins : (L : Image) → Valid L → Balanced L.chans (boot L).cores
 balanced_begins L valid = record {
-  ends = λ k p side at_k. let there = there_in L.cores L.chans k p side valid.pairs at_k in let size = ap length (ends_are k p side at_k) in let all = length-replicate (parts_in L.cores (place p side).core).ends boot_end in omega (arith, there, size, all);
+  ends = λ k p side at_k. let there = there_in L.cores L.chans k p side valid.pairs at_k in let size = ap length (ends_are k p side at_k) in let all = length-replicate (parts_in L.cores (end_of_side p side).core).ends boot_end in omega (arith, there, size, all);
   eight = λ k p side at_k.
-      let none = ap length (boot_tokens L (place p (other_side side)).core (place p (other_side side)).end) in
-      let credits = ap (λ l. credits_in (slice_get l (place p side).end)) (ends_are k p side at_k) in
-      let full = boot_credits (parts_in L.cores (place p side).core).ends (place p side).end (there_in L.cores L.chans k p side valid.pairs at_k) in
+      let none = ap length (boot_tokens L (end_of_side p (other_side side)).core (end_of_side p (other_side side)).end) in
+      let credits = ap (λ l. credits_in (slice_get l (end_of_side p side).end)) (ends_are k p side at_k) in
+      let full = boot_credits (parts_in L.cores (end_of_side p side).core).ends (end_of_side p side).end (there_in L.cores L.chans k p side valid.pairs at_k) in
       omega (arith, none, credits, full);
 }
   where
-    ends_are : (k : ℕ) (p : Pair) (side : Side) → slice_get L.chans k ≡ Some p → ends_in (slice_get (boot L).cores (place p side).core) ≡ replicate (parts_in L.cores (place p side).core).ends boot_end
-    ends_are k p side at_k = boot_ends L (place p side).core ((valid_wired L valid).core k p side at_k)
+    ends_are : (k : ℕ) (p : Pair) (side : Side) → slice_get L.chans k ≡ Some p → ends_in (slice_get (boot L).cores (end_of_side p side).core) ≡ replicate (parts_in L.cores (end_of_side p side).core).ends boot_end
+    ends_are k p side at_k = boot_ends L (end_of_side p side).core ((valid_wired L valid).core k p side at_k)

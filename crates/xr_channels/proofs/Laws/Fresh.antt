@@ -4,8 +4,8 @@ use Rattle.std.proofs.Common.{◌≡◌, ◌≤◌, suc, ◌+◌, Bool, true, fa
 use Rattle.std.specs.Prelude.{◌⊎◌}
 use Rattle.xs_instr.specs.declared.state.Token.{Token}
 use Rattle.xc_meaning.specs.States.Channels.{Parcel, offer, opening, word, closing, taken}
-use Rattle.xr_channels.specs.Phases.{Question, offers, opens, closes, Phase, between, sends_end, awaits_ack, checks_end, sends_ack, was_closed, streams, Spot, spot, encode, encodes, unread, ahead, asked, turns, reads, Path, questions, answers, Asked, is_open, is_answered, Line, Way, Talk}
-use Rattle.xr_channels.specs.Fresh.{may_be_early, IsServed, IsFresh}
+use Rattle.xr_channels.specs.Phases.{Question, offers, opens, closes, Phase, between, sends_end, awaits_ack, checks_end, sends_ack, was_closed, streams, SideState, side_state, encode, encodes, unread, ahead, asked, switches_mode, reads, Path, questions, answers, Asked, is_open, is_answered, Direction, Transit, TransitRel}
+use Rattle.xr_channels.specs.ChannelRel.{may_be_early, IsServed, QuestionHasArrived}
 use Rattle.xr_channels.proofs.Tokens.Lines.{no_question, questions_append, answers_append}
 
 -- such a parcel is a question
@@ -22,11 +22,11 @@ some_question (closing ∷ ps) x qs m h = cc
 some_question (taken ∷ ps) x qs m h = some_question ps x qs m h
 
 -- without a question there is nothing to show
-pub fresh_none : (phase : Phase) (l : Line) → questions l.inbox ≡ [] → IsFresh phase l
+pub fresh_none : (phase : Phase) (l : Direction) → questions l.inbox ≡ [] → QuestionHasArrived phase l
 fresh_none phase l none = record { come = λ s ps x qs e m. absurd (some_question ps x qs m (sym (ap questions e) ∙ none)) }
 
 -- nor where the reader waits in vain
-pub fresh_unserved : (phase : Phase) (l : Line) (q : Question) → asked phase ≡ q ∷ [] → answers l.inbox ≡ 0 → IsFresh phase l
+pub fresh_unserved : (phase : Phase) (l : Direction) (q : Question) → asked phase ≡ q ∷ [] → answers l.inbox ≡ 0 → QuestionHasArrived phase l
 fresh_unserved phase l q a none = record { come = λ s ps x qs e m. absurd (no s) }
   where
     no : IsServed phase l → ⊥
@@ -34,7 +34,7 @@ fresh_unserved phase l q a none = record { come = λ s ps x qs e m. absurd (no s
     no (inr z) = omega (arith, z, none)
 
 -- a token comes
-pub fresh_token : (phase : Phase) (l : Line) (t : Token) (rest : List Token) → IsFresh phase l → IsFresh phase (record l { buffer = l.buffer ++ t ∷ []; link = rest })
+pub fresh_token : (phase : Phase) (l : Direction) (t : Token) (rest : List Token) → QuestionHasArrived phase l → QuestionHasArrived phase (record l { buffer = l.buffer ++ t ∷ []; link = rest })
 fresh_token phase l t rest h = record {
   come = λ s ps x qs e m.
       let old = h.come s ps x qs e m in
@@ -54,7 +54,7 @@ split_last (i ∷ inbox) (y ∷ ps) p x qs e =
     elim (split_last inbox ps p x qs r) [ inl k ↦ inl (k.0, ap (λ l. i ∷ l) k.1 ∙ ap (λ v. v ∷ ps) z) | inr k ↦ inr (k.0, ap (λ l. i ∷ l) k.1 ∙ ap (λ v. v ∷ (ps ++ (x ∷ k.0))) z) ]
 
 -- a parcel that was late is put, and its first token comes: all of the parcels before it has come
-pub fresh_put : (s r : Spot) (l : Line) (p : Parcel) (late : List Parcel) (t : Token) (rest : List Token) (h : Way s r l) → h.more ≡ [] → answers (p ∷ []) ≡ 0 → IsFresh r.phase l → IsFresh r.phase (record l { buffer = l.buffer ++ t ∷ []; link = rest; inbox = l.inbox ++ p ∷ []; late = late })
+pub fresh_put : (s r : SideState) (l : Direction) (p : Parcel) (late : List Parcel) (t : Token) (rest : List Token) (h : Transit s r l) → h.more ≡ [] → answers (p ∷ []) ≡ 0 → QuestionHasArrived r.phase l → QuestionHasArrived r.phase (record l { buffer = l.buffer ++ t ∷ []; link = rest; inbox = l.inbox ++ p ∷ []; late = late })
 fresh_put s r l p late t rest h all none old = record { come = λ v ps x qs e m. by v ps x qs m (split_last l.inbox ps p x qs e) }
   where
     whole : length (ahead r.phase) + length l.buffer ≡ length (unread r.phase) + length (encodes l.inbox)
@@ -81,11 +81,11 @@ fresh_put s r l p late t rest h all none old = record { come = λ v ps x qs e m.
         omega (arith, n, o)
 
 -- a parcel that cannot be late is put by one who has asked nothing
-pub fresh_told : (phase : Phase) (l : Line) (p : Parcel) (link : List Token) → questions l.inbox ≡ [] → questions (p ∷ []) ≡ [] → IsFresh phase (record l { link = link; inbox = l.inbox ++ p ∷ [] })
+pub fresh_told : (phase : Phase) (l : Direction) (p : Parcel) (link : List Token) → questions l.inbox ≡ [] → questions (p ∷ []) ≡ [] → QuestionHasArrived phase (record l { link = link; inbox = l.inbox ++ p ∷ [] })
 fresh_told phase l p link none q = fresh_none phase (record l { link = link; inbox = l.inbox ++ p ∷ [] }) (questions_append l.inbox (p ∷ []) ∙ ap (λ k. k ++ questions (p ∷ [])) none ∙ q)
 
 -- A master's closing is put. It stands at the end, and nothing before it is a question.
-pub fresh_closing : (phase : Phase) (l : Line) (link : List Token) → questions l.inbox ≡ [] → IsFresh phase (record l { link = link; inbox = l.inbox ++ closing ∷ [] })
+pub fresh_closing : (phase : Phase) (l : Direction) (link : List Token) → questions l.inbox ≡ [] → QuestionHasArrived phase (record l { link = link; inbox = l.inbox ++ closing ∷ [] })
 fresh_closing phase l link none = record { come = λ v ps x qs e m. by x m (split_last l.inbox ps closing x qs e) ps }
   where
     by : (x : Parcel) → may_be_early x ≡ true → {ps : List Parcel} → ((closing ≡ x) × (l.inbox ≡ ps)) ⊎ ((rs : List Parcel) × (l.inbox ≡ ps ++ (x ∷ rs))) → (qs : List Parcel) → length (unread phase) + length (encodes ps) + 1 ≤ length (ahead phase) + length l.buffer
@@ -93,7 +93,7 @@ fresh_closing phase l link none = record { come = λ v ps x qs e m. by x m (spli
     by x m {ps} (inr k) qs = absurd (some_question ps x k.0 m (sym (ap questions k.1) ∙ none))
 
 -- The first parcel is taken, with as many tokens as it has; `served` says that the reader was served before.
-pub fresh_taken : (phase phase' : Phase) (l : Line) (p : Parcel) (ps : List Parcel) (ts : List Token) → l.inbox ≡ p ∷ ps → (IsServed phase' (record l { buffer = ts; inbox = ps }) → IsServed phase l) → length (ahead phase) + length l.buffer + length (unread phase') ≤ length (ahead phase') + length ts + length (encode p) + length (unread phase) → IsFresh phase l → IsFresh phase' (record l { buffer = ts; inbox = ps })
+pub fresh_taken : (phase phase' : Phase) (l : Direction) (p : Parcel) (ps : List Parcel) (ts : List Token) → l.inbox ≡ p ∷ ps → (IsServed phase' (record l { buffer = ts; inbox = ps }) → IsServed phase l) → length (ahead phase) + length l.buffer + length (unread phase') ≤ length (ahead phase') + length ts + length (encode p) + length (unread phase) → QuestionHasArrived phase l → QuestionHasArrived phase' (record l { buffer = ts; inbox = ps })
 fresh_taken phase phase' l p ps ts e served lens h = record {
   come = λ v bs x qs k m.
       let old = h.come (served v) (p ∷ bs) x qs (e ∙ ap (λ y. p ∷ y) k) m in
@@ -102,7 +102,7 @@ fresh_taken phase phase' l p ps ts e served lens h = record {
 }
 
 -- only the phase and the tokens change
-pub fresh_phase : (phase phase' : Phase) (l : Line) (ts : List Token) → (IsServed phase' (record l { buffer = ts }) → IsServed phase l) → length (ahead phase) + length l.buffer + length (unread phase') ≤ length (ahead phase') + length ts + length (unread phase) → IsFresh phase l → IsFresh phase' (record l { buffer = ts })
+pub fresh_phase : (phase phase' : Phase) (l : Direction) (ts : List Token) → (IsServed phase' (record l { buffer = ts }) → IsServed phase l) → length (ahead phase) + length l.buffer + length (unread phase') ≤ length (ahead phase') + length ts + length (unread phase) → QuestionHasArrived phase l → QuestionHasArrived phase' (record l { buffer = ts })
 fresh_phase phase phase' l ts served lens h = record {
   come = λ v bs x qs k m.
       let old = h.come (served v) bs x qs k m in
@@ -110,7 +110,7 @@ fresh_phase phase phase' l ts served lens h = record {
 }
 
 -- Where no token is at the end of a side between pieces and outside, its inbox is empty: `default` may be taken.
-pub nothing_ready : (r : Spot) (go come : Line) → Talk (spot between false) r go come → IsFresh between come → come.buffer ≡ [] → come.inbox ≡ []
+pub nothing_ready : (r : SideState) (go come : Direction) → TransitRel (side_state between false) r go come → QuestionHasArrived between come → come.buffer ≡ [] → come.inbox ≡ []
 nothing_ready r go come h fresh none = by come.inbox refl
   where
     path : (is : List Parcel) → come.inbox ≡ is → Path false false is r.inside
@@ -132,8 +132,8 @@ nothing_ready r go come h fresh none = by come.inbox refl
 
 -- The early put, at the sender's own trap: its own inbox begins with something other than an answer, and it reads outside. Then the other
 -- side has asked and isn't answered.
-pub reader_waits : (q : Question) (r : Spot) (go come : Line) (x : Parcel) (ps : List Parcel) → Talk (spot (awaits_ack q) false) r go come → reads (spot (awaits_ack q) false) ≡ false → come.inbox ≡ x ∷ ps → (answers (x ∷ []) ≡ 0) → (z : Question) × (asked r.phase ≡ z ∷ []) × (answers go.inbox ≡ 0)
-reader_waits q r go come x ps h out e wrong = by x e wrong (subst (λ k. Path (turns (awaits_ack q)) (reads (spot (awaits_ack q) false)) k r.inside) e h.homeward.path)
+pub reader_waits : (q : Question) (r : SideState) (go come : Direction) (x : Parcel) (ps : List Parcel) → TransitRel (side_state (awaits_ack q) false) r go come → reads (side_state (awaits_ack q) false) ≡ false → come.inbox ≡ x ∷ ps → (answers (x ∷ []) ≡ 0) → (z : Question) × (asked r.phase ≡ z ∷ []) × (answers go.inbox ≡ 0)
+reader_waits q r go come x ps h out e wrong = by x e wrong (subst (λ k. Path (switches_mode (awaits_ack q)) (reads (side_state (awaits_ack q) false)) k r.inside) e h.homeward.path)
   where
     asks : (z : Question) (zs : List Question) → questions (come.inbox ++ come.late) ≡ z ∷ zs → (f : Phase) → r.phase ≡ f → Asked f (come.inbox ++ come.late) go.inbox → (w : Question) × (asked r.phase ≡ w ∷ []) × (answers go.inbox ≡ 0)
     asks z zs k between g (is_open a b) = let n : z ∷ zs ≡ [] = sym k ∙ a in cc
@@ -151,10 +151,10 @@ reader_waits q r go come x ps h out e wrong = by x e wrong (subst (λ k. Path (t
     outside : (t f : Bool) (y : Parcel) → f ≡ false → Path t f (y ∷ ps) r.inside → Path t false (y ∷ ps) r.inside
     outside t f y z k = subst (λ b. Path t b (y ∷ ps) r.inside) z k
 
-    by : (y : Parcel) → come.inbox ≡ y ∷ ps → answers (y ∷ []) ≡ 0 → Path (turns (awaits_ack q)) (reads (spot (awaits_ack q) false)) (y ∷ ps) r.inside → (z : Question) × (asked r.phase ≡ z ∷ []) × (answers go.inbox ≡ 0)
+    by : (y : Parcel) → come.inbox ≡ y ∷ ps → answers (y ∷ []) ≡ 0 → Path (switches_mode (awaits_ack q)) (reads (side_state (awaits_ack q) false)) (y ∷ ps) r.inside → (z : Question) × (asked r.phase ≡ z ∷ []) × (answers go.inbox ≡ 0)
     by (offer v) i n k = asks (offers v) (questions (ps ++ come.late)) (ap (λ l. questions (l ++ come.late)) i) r.phase refl theirs
     by opening i n k = asks opens (questions (ps ++ come.late)) (ap (λ l. questions (l ++ come.late)) i) r.phase refl theirs
-    by (word v) i n k = absurd (no (turns (awaits_ack q)) (outside (turns (awaits_ack q)) _ (word v) out k))
+    by (word v) i n k = absurd (no (switches_mode (awaits_ack q)) (outside (switches_mode (awaits_ack q)) _ (word v) out k))
       where
         no : (t : Bool) → Path t false (word v ∷ ps) r.inside → ⊥
         no t h = h

@@ -4,7 +4,7 @@ use Rattle.std.specs.Prelude.{◌⊎◌, not, nat_eq, ◌||◌}
 use Rattle.xs_instr.specs.declared.state.Token.{Token}
 use Rattle.xs_instr.specs.Ends.{word_tokens, control_token, data_token, Passed, Other, NotThere, check, Word, Control, NotYet, take_word}
 use Rattle.xc_meaning.specs.States.Channels.{Parcel, offer, opening, word, closing, taken}
-use Rattle.xr_channels.specs.Phases.{END, ACK, OPEN, Question, Phase, between, sends_end, awaits_ack, checks_end, sends_ack, was_closed, streams, Spot, spot, encodes, unread, ahead, turns, Path, Line, Way}
+use Rattle.xr_channels.specs.Phases.{END, ACK, OPEN, Question, Phase, between, sends_end, awaits_ack, checks_end, sends_ack, was_closed, streams, SideState, side_state, encodes, unread, ahead, switches_mode, Path, Direction, Transit}
 
 -- what a row awaits
 abbrev pub is_taken : Parcel → Bool
@@ -28,7 +28,7 @@ is_word (word v) = true
 is_word p = false
 
 -- CHKCT: nothing is there; or the first parcel is the one that is awaited, and the token too; or both are others
-pub data Checks (c : ℕ) (given : Parcel) (wanted : Parcel → Bool) (l : Line) : Type 0 where
+pub data Checks (c : ℕ) (given : Parcel) (wanted : Parcel → Bool) (l : Direction) : Type 0 where
   waits : l.buffer ≡ [] → check l.buffer c ≡ NotThere → Checks c given wanted l
   passes : (ts : List Token) (ps : List Parcel) → l.buffer ≡ control_token c ∷ ts → check l.buffer c ≡ Passed → l.inbox ≡ given ∷ ps → Checks c given wanted l
   traps : (k : Token) (p : Parcel) (ps : List Parcel) → check l.buffer c ≡ Other k → l.inbox ≡ p ∷ ps → wanted p ≡ false → Checks c given wanted l
@@ -42,7 +42,7 @@ head closing = END
 head taken = ACK
 
 -- what stands first at an end belongs to the first parcel
-pub first_token : (l : Line) (more : List Token) → l.buffer ++ more ≡ encodes l.inbox → (l.buffer ≡ []) ⊎ ((p : Parcel) × (ps : List Parcel) × (ts : List Token) × (l.inbox ≡ p ∷ ps) × (l.buffer ≡ head p ∷ ts))
+pub first_token : (l : Direction) (more : List Token) → l.buffer ++ more ≡ encodes l.inbox → (l.buffer ≡ []) ⊎ ((p : Parcel) × (ps : List Parcel) × (ts : List Token) × (l.inbox ≡ p ∷ ps) × (l.buffer ≡ head p ∷ ts))
 first_token l more h = by l.buffer l.inbox refl refl h
   where
     by : (b : List Token) (is : List Parcel) → l.buffer ≡ b → l.inbox ≡ is → b ++ more ≡ encodes is → (l.buffer ≡ []) ⊎ ((p : Parcel) × (ps : List Parcel) × (ts : List Token) × (l.inbox ≡ p ∷ ps) × (l.buffer ≡ head p ∷ ts))
@@ -55,7 +55,7 @@ first_token l more h = by l.buffer l.inbox refl refl h
     by (t ∷ ts) (taken ∷ ps) x y k = let same : t ≡ ACK = cc in inr (taken, ps, ts, y, x ∙ ap (λ z. z ∷ ts) same)
 
 -- by the first parcel, which `head` tells from the awaited one
-check_first : (c : ℕ) (given : Parcel) (wanted : Parcel → Bool) (l : Line) (more : List Token) → ((p : Parcel) (ts : List Token) → ((head p ≡ control_token c) × (check (head p ∷ ts) c ≡ Passed) × (p ≡ given)) ⊎ ((check (head p ∷ ts) c ≡ Other (head p)) × (wanted p ≡ false))) → l.buffer ++ more ≡ encodes l.inbox → Checks c given wanted l
+check_first : (c : ℕ) (given : Parcel) (wanted : Parcel → Bool) (l : Direction) (more : List Token) → ((p : Parcel) (ts : List Token) → ((head p ≡ control_token c) × (check (head p ∷ ts) c ≡ Passed) × (p ≡ given)) ⊎ ((check (head p ∷ ts) c ≡ Other (head p)) × (wanted p ≡ false))) → l.buffer ++ more ≡ encodes l.inbox → Checks c given wanted l
 check_first c given wanted l more tells h = by (first_token l more h)
   where
     by : (l.buffer ≡ []) ⊎ ((p : Parcel) × (ps : List Parcel) × (ts : List Token) × (l.inbox ≡ p ∷ ps) × (l.buffer ≡ head p ∷ ts)) → Checks c given wanted l
@@ -67,7 +67,7 @@ check_first c given wanted l more tells h = by (first_token l more h)
         so (inr (y, z)) = traps (head p) p ps (ap (λ k. check k c) b ∙ y) i z
 
 -- CHKCT ACK
-pub ack_found : (q : Question) (i : Bool) (r : Spot) (l : Line) → Way r (spot (awaits_ack q) i) l → Checks 3 taken is_taken l
+pub ack_found : (q : Question) (i : Bool) (r : SideState) (l : Direction) → Transit r (side_state (awaits_ack q) i) l → Checks 3 taken is_taken l
 ack_found q i r l h = check_first 3 taken is_taken l h.more tells h.come
   where
     tells : (p : Parcel) (ts : List Token) → ((head p ≡ control_token 3) × (check (head p ∷ ts) 3 ≡ Passed) × (p ≡ taken)) ⊎ ((check (head p ∷ ts) 3 ≡ Other (head p)) × (is_taken p ≡ false))
@@ -78,7 +78,7 @@ ack_found q i r l h = check_first 3 taken is_taken l h.more tells h.come
     tells taken ts = inl (refl, refl, refl)
 
 -- CHKCT OPEN of a slave's start
-pub open_found : (i : Bool) (r : Spot) (l : Line) → Way r (spot between i) l → Checks 16 opening is_opening l
+pub open_found : (i : Bool) (r : SideState) (l : Direction) → Transit r (side_state between i) l → Checks 16 opening is_opening l
 open_found i r l h = check_first 16 opening is_opening l h.more tells h.come
   where
     tells : (p : Parcel) (ts : List Token) → ((head p ≡ control_token 16) × (check (head p ∷ ts) 16 ≡ Passed) × (p ≡ opening)) ⊎ ((check (head p ∷ ts) 16 ≡ Other (head p)) × (is_opening p ≡ false))
@@ -89,7 +89,7 @@ open_found i r l h = check_first 16 opening is_opening l h.more tells h.come
     tells taken ts = inr (refl, refl)
 
 -- CHKCT END of a slave's end
-pub close_found : (i : Bool) (r : Spot) (l : Line) → Way r (spot between i) l → Checks 1 closing is_closing l
+pub close_found : (i : Bool) (r : SideState) (l : Direction) → Transit r (side_state between i) l → Checks 1 closing is_closing l
 close_found i r l h = check_first 1 closing is_closing l h.more tells h.come
   where
     tells : (p : Parcel) (ts : List Token) → ((head p ≡ control_token 1) × (check (head p ∷ ts) 1 ≡ Passed) × (p ≡ closing)) ⊎ ((check (head p ∷ ts) 1 ≡ Other (head p)) × (is_closing p ≡ false))
@@ -100,12 +100,12 @@ close_found i r l h = check_first 1 closing is_closing l h.more tells h.come
     tells taken ts = inr (refl, refl)
 
 -- CHKCT END of a plain input never traps
-pub data EndChecks (l : Line) : Type 0 where
+pub data EndChecks (l : Direction) : Type 0 where
   end_waits : l.buffer ≡ [] → check l.buffer 1 ≡ NotThere → EndChecks l
   end_passes : (ts : List Token) → l.buffer ≡ END ∷ ts → check l.buffer 1 ≡ Passed → EndChecks l
 
 -- by the tokens at the end
-pub end_found : (i : Bool) (r : Spot) (l : Line) → Way r (spot checks_end i) l → EndChecks l
+pub end_found : (i : Bool) (r : SideState) (l : Direction) → Transit r (side_state checks_end i) l → EndChecks l
 end_found i r l h = by l.buffer refl h.come
   where
     by : (b : List Token) → l.buffer ≡ b → b ++ h.more ≡ END ∷ encodes l.inbox → EndChecks l
@@ -113,7 +113,7 @@ end_found i r l h = by l.buffer refl h.come
     by (t ∷ ts) x k = let same : t ≡ END = cc in let y : l.buffer ≡ END ∷ ts = x ∙ ap (λ z. z ∷ ts) same in end_passes ts y (ap (λ b. check b 1) y)
 
 -- IN: too few tokens; or the word of the first parcel; or a control token, and another parcel
-pub data Inputs (given : ℕ → Parcel) (wanted : Parcel → Bool) (l : Line) : Type 0 where
+pub data Inputs (given : ℕ → Parcel) (wanted : Parcel → Bool) (l : Direction) : Type 0 where
   word_waits : take_word l.buffer ≡ NotYet → length l.buffer < 4 → Inputs given wanted l
   word_passes : (v : ℕ) (ts : List Token) (ps : List Parcel) → l.buffer ≡ word_tokens v ++ ts → take_word l.buffer ≡ Word v → l.inbox ≡ given v ∷ ps → Inputs given wanted l
   word_traps : (c : ℕ) (p : Parcel) (ps : List Parcel) → take_word l.buffer ≡ Control c → l.inbox ≡ p ∷ ps → wanted p ≡ false → Inputs given wanted l
@@ -139,7 +139,7 @@ word_got (a ∷ b ∷ c ∷ d ∷ ts) more tail v e =
     inr (ts, same, ap take_word same ∙ ap Word sum)
 
 -- IN of a plain input: the first parcel is no word, since nobody is inside
-pub offer_found : (r : Spot) (l : Line) → Way r (spot between false) l → Inputs offer is_offer l
+pub offer_found : (r : SideState) (l : Direction) → Transit r (side_state between false) l → Inputs offer is_offer l
 offer_found r l h = by l.inbox refl h.come (first_token l h.more h.come)
   where
     data_by : (v : ℕ) (ps : List Parcel) → l.inbox ≡ offer v ∷ ps → l.buffer ++ h.more ≡ (word_tokens v ++ END ∷ []) ++ encodes ps → Inputs offer is_offer l
@@ -158,7 +158,7 @@ offer_found r l h = by l.inbox refl h.come (first_token l h.more h.come)
     by is x k (inr (taken, ps, ts, i, b)) = word_traps 3 taken ps (ap take_word b) i refl
 
 -- IN inside a transaction: the first parcel is no offer, since both are inside
-word_found_by : (s r : Spot) (l : Line) (h : Way r s l) → l.buffer ++ h.more ≡ encodes l.inbox → Path (turns s.phase) true l.inbox r.inside → Inputs word is_word l
+word_found_by : (s r : SideState) (l : Direction) (h : Transit r s l) → l.buffer ++ h.more ≡ encodes l.inbox → Path (switches_mode s.phase) true l.inbox r.inside → Inputs word is_word l
 word_found_by s r l h k path = by (first_token l h.more k)
   where
     data_by : (v : ℕ) (ps : List Parcel) → l.inbox ≡ word v ∷ ps → l.buffer ++ h.more ≡ word_tokens v ++ encodes ps → Inputs word is_word l
@@ -170,7 +170,7 @@ word_found_by s r l h k path = by (first_token l h.more k)
 
     by : (l.buffer ≡ []) ⊎ ((p : Parcel) × (ps : List Parcel) × (ts : List Token) × (l.inbox ≡ p ∷ ps) × (l.buffer ≡ head p ∷ ts)) → Inputs word is_word l
     by (inl e) = word_waits (ap take_word e) (let n : length l.buffer ≡ 0 = ap length e in omega (arith, n))
-    by (inr (offer v, ps, ts, i, b)) = absurd (no (turns s.phase) (subst (λ z. Path (turns s.phase) true z r.inside) i path))
+    by (inr (offer v, ps, ts, i, b)) = absurd (no (switches_mode s.phase) (subst (λ z. Path (switches_mode s.phase) true z r.inside) i path))
       where
         no : (t : Bool) → Path t true (offer v ∷ ps) r.inside → ⊥
         no t h = h
@@ -180,12 +180,12 @@ word_found_by s r l h k path = by (first_token l h.more k)
     by (inr (taken, ps, ts, i, b)) = word_traps 3 taken ps (ap take_word b) i refl
 
 -- between pieces
-pub word_found : (r : Spot) (l : Line) → Way r (spot between true) l → Inputs word is_word l
-word_found r l h = word_found_by (spot between true) r l h h.come h.path
+pub word_found : (r : SideState) (l : Direction) → Transit r (side_state between true) l → Inputs word is_word l
+word_found r l h = word_found_by (side_state between true) r l h h.come h.path
 
 -- on a streaming channel
-pub stream_found : (r : Spot) (l : Line) → Way r (spot streams true) l → Inputs word is_word l
-stream_found r l h = word_found_by (spot streams true) r l h h.come h.path
+pub stream_found : (r : SideState) (l : Direction) → Transit r (side_state streams true) l → Inputs word is_word l
+stream_found r l h = word_found_by (side_state streams true) r l h h.come h.path
 
 -- where a data token or OPEN stands at an end, the inbox is not empty
 abbrev pub counts_as_parcel : Token → Bool
@@ -197,7 +197,7 @@ Has f [] = ⊥
 Has f (x ∷ xs) = (f x ≡ true) ⊎ Has f xs
 
 -- its parcel is still there
-pub parcel_there : (s r : Spot) (l : Line) → Way r s l → Has counts_as_parcel l.buffer → l.inbox ≡ [] → ⊥
+pub parcel_there : (s r : SideState) (l : Direction) → Transit r s l → Has counts_as_parcel l.buffer → l.inbox ≡ [] → ⊥
 parcel_there s r l h k none = by s.phase l.buffer h.come k
   where
     at_none : (b : List Token) (u : List Token) → b ++ h.more ≡ u ++ encodes l.inbox → (b ++ h.more ≡ u ++ [])

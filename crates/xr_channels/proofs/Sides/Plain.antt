@@ -2,7 +2,7 @@
 use Rattle.std.proofs.Common.{◌≡◌, ◌≤◌, ℕ, ◌+◌, false, List, [], ◌∷◌, ◌++◌, length, refl, sym, ap, ◌∙◌, subst, arith, append-nil, inl, inr}
 use Rattle.std.specs.Prelude.{◌⊎◌}
 use Rattle.xc_meaning.specs.States.Channels.{Parcel, words_among}
-use Rattle.xr_channels.specs.Phases.{Question, offers, opens, closes, Phase, between, sends_end, awaits_ack, checks_end, sends_ack, was_closed, streams, Spot, encodes, unsent, unread, ahead, asked, turns, reads_by, questions, answers, Asked, is_open, is_answered, Line, Talk}
+use Rattle.xr_channels.specs.Phases.{Question, offers, opens, closes, Phase, between, sends_end, awaits_ack, checks_end, sends_ack, was_closed, streams, SideState, encodes, unsent, unread, ahead, asked, switches_mode, reads_by, questions, answers, Asked, is_open, is_answered, Direction, TransitRel}
 use Rattle.xr_channels.proofs.Tokens.Lengths.{OnlyOffers, few_answers, length_no_question, length_one_offer, nothing_late, small_unread, steady_reads, unread_length}
 
 -- a phase of an output or an input, or between them
@@ -18,7 +18,7 @@ IsPlain was_closed = ⊥
 IsPlain streams = ⊥
 
 -- such a side turns nowhere, reads where it stands, and has taken nothing that its branch hasn't
-plain_reads : (f : Phase) → IsPlain f → (turns f ≡ false) × (reads_by f false ≡ false) × (ahead f ≡ [])
+plain_reads : (f : Phase) → IsPlain f → (switches_mode f ≡ false) × (reads_by f false ≡ false) × (ahead f ≡ [])
 plain_reads between h = (refl, refl, refl)
 plain_reads (sends_end v) h = (refl, refl, refl)
 plain_reads (awaits_ack (offers v)) h = (refl, refl, refl)
@@ -56,7 +56,7 @@ nothing_asked f there here none (is_open q a) = q ∙ none
 nothing_asked f there here none (is_answered q a) = q
 
 -- From one such side to the other, with nothing on the link and nothing late.
-module _ (s r : Spot) (go come : Line) (talk : Talk s r go come) (s_plain : IsPlain s.phase) (r_plain : IsPlain r.phase) (s_outside : s.inside ≡ false) (r_outside : r.inside ≡ false)
+module _ (s r : SideState) (go come : Direction) (talk : TransitRel s r go come) (s_plain : IsPlain s.phase) (r_plain : IsPlain r.phase) (s_outside : s.inside ≡ false) (r_outside : r.inside ≡ false)
     (link : go.link ≡ []) (late : go.late ≡ []) where
   put : questions (go.inbox ++ go.late) ≡ questions go.inbox
   put = ap (λ l. questions (go.inbox ++ l)) late ∙ ap questions (append-nil go.inbox)
@@ -101,7 +101,7 @@ module _ (s r : Spot) (go come : Line) (talk : Talk s r go come) (s_plain : IsPl
   at_most_two none = few_without (sym put ∙ nothing_asked s.phase (go.inbox ++ go.late) come.inbox none talk.mine)
 
 -- From a side that has sent all it has begun, with nothing on the link and no token at the end.
-module _ (s r : Spot) (go come : Line) (talk : Talk s r go come) (all_sent : unsent r.phase ≡ []) (link : come.link ≡ []) (none : come.buffer ≡ []) where
+module _ (s r : SideState) (go come : Direction) (talk : TransitRel s r go come) (all_sent : unsent r.phase ≡ []) (link : come.link ≡ []) (none : come.buffer ≡ []) where
   -- the inbox of a side that has taken neither more nor less than its branch is empty
   pub nothing_came : ahead s.phase ≡ [] → unread s.phase ≡ [] → come.inbox ≡ []
   nothing_came taken owed = (nothing_late r s come talk.homeward all_sent link).1 none taken owed

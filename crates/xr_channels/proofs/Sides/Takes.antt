@@ -3,21 +3,21 @@ use Rattle.std.proofs.Common.{◌≡◌, ℕ, suc, Bool, true, false, List, [], 
 use Rattle.xs_instr.specs.declared.state.Token.{Token}
 use Rattle.xs_instr.specs.Ends.{word_tokens}
 use Rattle.xc_meaning.specs.States.Channels.{Parcel, offer, opening, word, closing, taken}
-use Rattle.xr_channels.specs.Phases.{END, ACK, OPEN, Question, offers, opens, closes, parcel_of, Phase, between, sends_end, awaits_ack, checks_end, sends_ack, was_closed, streams, Spot, spot, encode, encodes, unsent, unread, ahead, asked, turns, reads, reads_by, LateBy, Path, questions, answers, Asked, is_open, is_answered, Line, Way, Talk}
+use Rattle.xr_channels.specs.Phases.{END, ACK, OPEN, Question, offers, opens, closes, parcel_of, Phase, between, sends_end, awaits_ack, checks_end, sends_ack, was_closed, streams, SideState, side_state, encode, encodes, unsent, unread, ahead, asked, switches_mode, reads, reads_by, LateBy, Path, questions, answers, Asked, is_open, is_answered, Direction, Transit, TransitRel}
 use Rattle.xr_channels.proofs.Tokens.Lines.{told_coming, put_come, path_on, path_no_answer, one_path, questions_append, answers_append, no_question, asks_put, read_to, told_now}
 
 -- A parcel of the own inbox is taken with its first tokens.
-takes_home : (s s' r : Spot) (ts : List Token) (l : Line) (p : Parcel) (ps : List Parcel) → l.inbox ≡ p ∷ ps → ((more : List Token) → ahead s.phase ++ (l.buffer ++ more) ≡ unread s.phase ++ (encode p ++ encodes ps) → ahead s'.phase ++ (ts ++ more) ≡ unread s'.phase ++ encodes ps) → (Path (turns s.phase) (reads s) (p ∷ ps) r.inside → Path (turns s'.phase) (reads s') ps r.inside) → Way r s l → Way r s' (read_to l ts ps)
+takes_home : (s s' r : SideState) (ts : List Token) (l : Direction) (p : Parcel) (ps : List Parcel) → l.inbox ≡ p ∷ ps → ((more : List Token) → ahead s.phase ++ (l.buffer ++ more) ≡ unread s.phase ++ (encode p ++ encodes ps) → ahead s'.phase ++ (ts ++ more) ≡ unread s'.phase ++ encodes ps) → (Path (switches_mode s.phase) (reads s) (p ∷ ps) r.inside → Path (switches_mode s'.phase) (reads s') ps r.inside) → Transit r s l → Transit r s' (read_to l ts ps)
 takes_home s s' r ts l p ps e cut path h = record {
   more = h.more;
   coming = h.coming;
   come = cut h.more (h.come ∙ ap (λ k. unread s.phase ++ encodes k) e);
-  path = path (subst (λ k. Path (turns s.phase) (reads s) k r.inside) e h.path);
+  path = path (subst (λ k. Path (switches_mode s.phase) (reads s) k r.inside) e h.path);
   late = h.late;
 }
 
 -- CHKCT ACK passes: the answer is taken
-answered_path : (q : Question) (i : Bool) (ps : List Parcel) (to : Bool) → answers ps ≡ 0 → LateBy (awaits_ack q) i [] → Path (turns (awaits_ack q)) (reads_by (awaits_ack q) i) (taken ∷ ps) to → Path false i ps to
+answered_path : (q : Question) (i : Bool) (ps : List Parcel) (to : Bool) → answers ps ≡ 0 → LateBy (awaits_ack q) i [] → Path (switches_mode (awaits_ack q)) (reads_by (awaits_ack q) i) (taken ∷ ps) to → Path false i ps to
 answered_path (offers v) i ps to none late h = h
 answered_path opens true ps to none late h = path_no_answer true false true ps to none h
 answered_path opens false ps to none (inl late) h = cc
@@ -26,14 +26,14 @@ answered_path closes false ps to none late h = path_no_answer true false false p
 answered_path closes true ps to none late h = cc
 
 -- the side goes on behind its CHKCT ACK
-pub answer_taken : (q : Question) (i : Bool) (r : Spot) (go come : Line) (ts : List Token) (ps : List Parcel) → go.late ≡ [] → come.inbox ≡ taken ∷ ps → come.buffer ≡ ACK ∷ ts → Talk (spot (awaits_ack q) i) r go come → Talk (spot between i) r go (read_to come ts ps)
+pub answer_taken : (q : Question) (i : Bool) (r : SideState) (go come : Direction) (ts : List Token) (ps : List Parcel) → go.late ≡ [] → come.inbox ≡ taken ∷ ps → come.buffer ≡ ACK ∷ ts → TransitRel (side_state (awaits_ack q) i) r go come → TransitRel (side_state between i) r go (read_to come ts ps)
 answer_taken q i r go come ts ps on_time e b h =
     let o = h.outward in
     let n = got h.mine in
     record {
       outward = record { more = o.more; coming = o.coming; come = o.come; path = o.path; late = on_time };
       homeward =
-          takes_home (spot (awaits_ack q) i) (spot between i) r ts come taken ps e
+          takes_home (side_state (awaits_ack q) i) (side_state between i) r ts come taken ps e
           (λ more k. let k' : ACK ∷ (ts ++ more) ≡ ACK ∷ encodes ps = ap (λ x. x ++ more) (sym b) ∙ k in cc)
           (λ k. answered_path q i ps r.inside n.1 (subst (λ x. LateBy (awaits_ack q) i x) on_time o.late) k)
           h.homeward;
@@ -50,7 +50,7 @@ answer_taken q i r go come ts ps on_time e b h =
     now_theirs (is_answered x a) = is_answered (ap (λ k. questions (k ++ come.late)) (sym e) ∙ x) a
 
 -- what is answered was on time
-pub answered_on_time : (q : Question) (i : Bool) (r : Spot) (go come : Line) (ps : List Parcel) → come.inbox ≡ taken ∷ ps → Talk (spot (awaits_ack q) i) r go come → go.late ≡ []
+pub answered_on_time : (q : Question) (i : Bool) (r : SideState) (go come : Direction) (ps : List Parcel) → come.inbox ≡ taken ∷ ps → TransitRel (side_state (awaits_ack q) i) r go come → go.late ≡ []
 answered_on_time q i r go come ps e h = by q h.outward.late (none h.mine)
   where
     none : Asked (awaits_ack q) (go.inbox ++ go.late) come.inbox → questions go.inbox ++ questions go.late ≡ []
@@ -89,7 +89,7 @@ turns_question opens = true
 turns_question closes = true
 
 -- as its phase says
-asked_turns : (phase : Phase) (q : Question) → asked phase ≡ q ∷ [] → turns phase ≡ turns_question q
+asked_turns : (phase : Phase) (q : Question) → asked phase ≡ q ∷ [] → switches_mode phase ≡ turns_question q
 asked_turns between q h = cc
 asked_turns (sends_end v) (offers w) h = refl
 asked_turns (sends_end v) opens h = cc
@@ -110,7 +110,7 @@ asked_turns streams q h = cc
 
 -- A question is taken and its answer put. The reader's phase goes from one without a question to another such, and it sends ks of the
 -- answer at once.
-answers_question : (q : Question) (s s' r : Spot) (ks ts : List Token) (go come : Line) (ps : List Parcel) → come.inbox ≡ parcel_of q ∷ ps → questions (parcel_of q ∷ ps) ≡ q ∷ questions ps → answers (parcel_of q ∷ ps) ≡ answers ps → asked s.phase ≡ [] → asked s'.phase ≡ [] → ((there here : List Parcel) → Asked s.phase there here → (questions there ≡ []) × (answers here ≡ 0)) → go.late ≡ [] → ks ++ unsent s'.phase ≡ unsent s.phase ++ ACK ∷ [] → ((more : List Token) → ahead s.phase ++ (come.buffer ++ more) ≡ unread s.phase ++ (encode (parcel_of q) ++ encodes ps) → ahead s'.phase ++ (ts ++ more) ≡ unread s'.phase ++ encodes ps) → (Path (turns s.phase) (reads s) (parcel_of q ∷ ps) r.inside → Path (turns s'.phase) (reads s') ps r.inside) → Path (turns_question q) s.inside (taken ∷ []) s'.inside → LateBy s'.phase s'.inside go.late → Talk s r go come → Talk s' r (told_now go ks taken) (read_to come ts ps)
+answers_question : (q : Question) (s s' r : SideState) (ks ts : List Token) (go come : Direction) (ps : List Parcel) → come.inbox ≡ parcel_of q ∷ ps → questions (parcel_of q ∷ ps) ≡ q ∷ questions ps → answers (parcel_of q ∷ ps) ≡ answers ps → asked s.phase ≡ [] → asked s'.phase ≡ [] → ((there here : List Parcel) → Asked s.phase there here → (questions there ≡ []) × (answers here ≡ 0)) → go.late ≡ [] → ks ++ unsent s'.phase ≡ unsent s.phase ++ ACK ∷ [] → ((more : List Token) → ahead s.phase ++ (come.buffer ++ more) ≡ unread s.phase ++ (encode (parcel_of q) ++ encodes ps) → ahead s'.phase ++ (ts ++ more) ≡ unread s'.phase ++ encodes ps) → (Path (switches_mode s.phase) (reads s) (parcel_of q ∷ ps) r.inside → Path (switches_mode s'.phase) (reads s') ps r.inside) → Path (turns_question q) s.inside (taken ∷ []) s'.inside → LateBy s'.phase s'.inside go.late → TransitRel s r go come → TransitRel s' r (told_now go ks taken) (read_to come ts ps)
 answers_question q s s' r ks ts go come ps e qe ae none none' nothing on_time sends cut path out_path late h =
     let o = h.outward in
     let n = nothing (go.inbox ++ go.late) come.inbox h.mine in
@@ -124,7 +124,7 @@ answers_question q s s' r ks ts go come ps e qe ae none none' nothing on_time se
         more = o.more ++ ACK ∷ [];
         coming = told_coming go.link o.more ks (unsent s.phase) (unsent s'.phase) taken go.late on_time sends o.coming;
         come = put_come (ahead r.phase) go.buffer o.more (unread r.phase) taken go.inbox o.come;
-        path = path_on (turns r.phase) (reads r) go.inbox s.inside s'.inside taken o.path (one_path (turns r.phase) s.inside s'.inside taken (subst (λ t. Path t s.inside (taken ∷ []) s'.inside) (sym (asked_turns r.phase q by.0)) out_path));
+        path = path_on (switches_mode r.phase) (reads r) go.inbox s.inside s'.inside taken o.path (one_path (switches_mode r.phase) s.inside s'.inside taken (subst (λ t. Path t s.inside (taken ∷ []) s'.inside) (sym (asked_turns r.phase q by.0)) out_path));
         late = late;
       };
       homeward = takes_home s s' r ts come (parcel_of q) ps e cut path h.homeward;
@@ -133,23 +133,23 @@ answers_question q s s' r ks ts go come ps e qe ae none none' nothing on_time se
     }
 
 -- IN of a plain input
-pub offer_taken : (v : ℕ) (r : Spot) (go come : Line) (ts : List Token) (ps : List Parcel) → come.inbox ≡ offer v ∷ ps → come.buffer ≡ word_tokens v ++ ts → Talk (spot between false) r go come → Talk (spot checks_end false) r (told_now go [] taken) (read_to come ts ps)
+pub offer_taken : (v : ℕ) (r : SideState) (go come : Direction) (ts : List Token) (ps : List Parcel) → come.inbox ≡ offer v ∷ ps → come.buffer ≡ word_tokens v ++ ts → TransitRel (side_state between false) r go come → TransitRel (side_state checks_end false) r (told_now go [] taken) (read_to come ts ps)
 offer_taken v r go come ts ps e b h =
-    answers_question (offers v) (spot between false) (spot checks_end false) r [] ts go come ps e refl refl refl refl no_question h.outward.late refl
+    answers_question (offers v) (side_state between false) (side_state checks_end false) r [] ts go come ps e refl refl refl refl no_question h.outward.late refl
     (λ more k. let k' : (word_tokens v ++ ts) ++ more ≡ (word_tokens v ++ END ∷ []) ++ encodes ps = ap (λ x. x ++ more) (sym b) ∙ k in cc)
     (λ k. k) refl (refl, h.outward.late) h
 
 -- CHKCT OPEN of a slave's start passes
-pub opening_taken : (r : Spot) (go come : Line) (ts : List Token) (ps : List Parcel) → come.inbox ≡ opening ∷ ps → come.buffer ≡ OPEN ∷ ts → Talk (spot between false) r go come → Talk (spot sends_ack true) r (told_now go [] taken) (read_to come ts ps)
+pub opening_taken : (r : SideState) (go come : Direction) (ts : List Token) (ps : List Parcel) → come.inbox ≡ opening ∷ ps → come.buffer ≡ OPEN ∷ ts → TransitRel (side_state between false) r go come → TransitRel (side_state sends_ack true) r (told_now go [] taken) (read_to come ts ps)
 opening_taken r go come ts ps e b h =
-    answers_question opens (spot between false) (spot sends_ack true) r [] ts go come ps e refl refl refl refl no_question h.outward.late refl
+    answers_question opens (side_state between false) (side_state sends_ack true) r [] ts go come ps e refl refl refl refl no_question h.outward.late refl
     (λ more k. let k' : OPEN ∷ (ts ++ more) ≡ OPEN ∷ encodes ps = ap (λ x. x ++ more) (sym b) ∙ k in cc)
     (λ k. k) refl h.outward.late h
 
 -- OUTCT ACK of a slave's end
-pub closing_answered : (r : Spot) (go come : Line) (ps : List Parcel) → come.inbox ≡ closing ∷ ps → Talk (spot was_closed true) r go come → Talk (spot between false) r (told_now go (ACK ∷ []) taken) (read_to come come.buffer ps)
+pub closing_answered : (r : SideState) (go come : Direction) (ps : List Parcel) → come.inbox ≡ closing ∷ ps → TransitRel (side_state was_closed true) r go come → TransitRel (side_state between false) r (told_now go (ACK ∷ []) taken) (read_to come come.buffer ps)
 closing_answered r go come ps e h =
-    answers_question closes (spot was_closed true) (spot between false) r (ACK ∷ []) come.buffer go come ps e refl refl refl refl closed h.outward.late.1 refl
+    answers_question closes (side_state was_closed true) (side_state between false) r (ACK ∷ []) come.buffer go come ps e refl refl refl refl closed h.outward.late.1 refl
     (λ more k. cc)
     (λ k. k) refl h.outward.late.1 h
   where
@@ -158,7 +158,7 @@ closing_answered r go come ps e h =
     closed there here (is_answered q a) = (q, a)
 
 -- CHKCT END of a plain input
-pub end_taken : (i : Bool) (r : Spot) (go come : Line) (ts : List Token) → come.buffer ≡ END ∷ ts → Talk (spot checks_end i) r go come → Talk (spot sends_ack i) r go (read_to come ts come.inbox)
+pub end_taken : (i : Bool) (r : SideState) (go come : Direction) (ts : List Token) → come.buffer ≡ END ∷ ts → TransitRel (side_state checks_end i) r go come → TransitRel (side_state sends_ack i) r go (read_to come ts come.inbox)
 end_taken i r go come ts b h =
     let o = h.outward in
     let d = h.homeward in
@@ -180,7 +180,7 @@ end_taken i r go come ts b h =
     now_mine (is_answered q a) = is_answered q a
 
 -- a word is taken
-takes_word : (v : ℕ) (s r : Spot) (go come : Line) (ts : List Token) (ps : List Parcel) → ahead s.phase ≡ [] → unread s.phase ≡ [] → reads s ≡ true → come.inbox ≡ word v ∷ ps → come.buffer ≡ word_tokens v ++ ts → Talk s r go come → Talk s r go (read_to come ts ps)
+takes_word : (v : ℕ) (s r : SideState) (go come : Direction) (ts : List Token) (ps : List Parcel) → ahead s.phase ≡ [] → unread s.phase ≡ [] → reads s ≡ true → come.inbox ≡ word v ∷ ps → come.buffer ≡ word_tokens v ++ ts → TransitRel s r go come → TransitRel s r go (read_to come ts ps)
 takes_word v s r go come ts ps a u in_it e b h = record {
   outward = h.outward;
   homeward =
@@ -188,7 +188,7 @@ takes_word v s r go come ts ps a u in_it e b h = record {
       (λ more k.
       let k' : (word_tokens v ++ ts) ++ more ≡ word_tokens v ++ encodes ps = ap (λ x. x ++ more) (sym b) ∙ sym (ap (λ x. x ++ (come.buffer ++ more)) a) ∙ k ∙ ap (λ x. x ++ (word_tokens v ++ encodes ps)) u in
       let m : ts ++ more ≡ encodes ps = cc in ap (λ x. x ++ (ts ++ more)) a ∙ m ∙ sym (ap (λ x. x ++ encodes ps) u))
-      (λ k. subst (λ x. Path (turns s.phase) x ps r.inside) (sym in_it) (subst (λ x. Path (turns s.phase) x (word v ∷ ps) r.inside) in_it k))
+      (λ k. subst (λ x. Path (switches_mode s.phase) x ps r.inside) (sym in_it) (subst (λ x. Path (switches_mode s.phase) x (word v ∷ ps) r.inside) in_it k))
       h.homeward;
   mine = now_mine h.mine;
   theirs = now_theirs h.theirs;
@@ -203,15 +203,15 @@ takes_word v s r go come ts ps a u in_it e b h = record {
     now_theirs (is_answered q x) = is_answered (ap (λ k. questions (k ++ come.late)) (sym e) ∙ q) x
 
 -- IN inside a transaction, and on a streaming channel
-pub word_taken : (v : ℕ) (r : Spot) (go come : Line) (ts : List Token) (ps : List Parcel) → come.inbox ≡ word v ∷ ps → come.buffer ≡ word_tokens v ++ ts → Talk (spot between true) r go come → Talk (spot between true) r go (read_to come ts ps)
-word_taken v r go come ts ps e b h = takes_word v (spot between true) r go come ts ps refl refl refl e b h
+pub word_taken : (v : ℕ) (r : SideState) (go come : Direction) (ts : List Token) (ps : List Parcel) → come.inbox ≡ word v ∷ ps → come.buffer ≡ word_tokens v ++ ts → TransitRel (side_state between true) r go come → TransitRel (side_state between true) r go (read_to come ts ps)
+word_taken v r go come ts ps e b h = takes_word v (side_state between true) r go come ts ps refl refl refl e b h
 
 -- on a streaming channel
-pub stream_taken : (v : ℕ) (r : Spot) (go come : Line) (ts : List Token) (ps : List Parcel) → come.inbox ≡ word v ∷ ps → come.buffer ≡ word_tokens v ++ ts → Talk (spot streams true) r go come → Talk (spot streams true) r go (read_to come ts ps)
-stream_taken v r go come ts ps e b h = takes_word v (spot streams true) r go come ts ps refl refl refl e b h
+pub stream_taken : (v : ℕ) (r : SideState) (go come : Direction) (ts : List Token) (ps : List Parcel) → come.inbox ≡ word v ∷ ps → come.buffer ≡ word_tokens v ++ ts → TransitRel (side_state streams true) r go come → TransitRel (side_state streams true) r go (read_to come ts ps)
+stream_taken v r go come ts ps e b h = takes_word v (side_state streams true) r go come ts ps refl refl refl e b h
 
 -- CHKCT END of a slave's end passes
-pub closing_seen : (r : Spot) (go come : Line) (ts : List Token) → come.buffer ≡ END ∷ ts → Talk (spot between true) r go come → Talk (spot was_closed true) r go (read_to come ts come.inbox)
+pub closing_seen : (r : SideState) (go come : Direction) (ts : List Token) → come.buffer ≡ END ∷ ts → TransitRel (side_state between true) r go come → TransitRel (side_state was_closed true) r go (read_to come ts come.inbox)
 closing_seen r go come ts b h =
     let o = h.outward in
     let d = h.homeward in

@@ -9,7 +9,7 @@ use Rattle.xs_instr.specs.declared.state.Token.{Token}
 use Rattle.xs_instr.specs.Ends.{tokens_to, credits_to, all_sent}
 use Rattle.xs_instr.specs.Machine.{link_of, link_put, on_links}
 use Rattle.xc_meaning.specs.States.Channels.{Side, other_side}
-use Rattle.xr_channels.specs.Wires.{Links, place}
+use Rattle.xr_channels.specs.Channels.{Links, end_of_side}
 use Rattle.xr_channels.proofs.Tokens.Views.{same_num, Square, get_put, get_put_other, items_of, link_sent, link_sent_other}
 use Rattle.xr_channels.proofs.Tokens.Changes.{peer}
 
@@ -19,8 +19,8 @@ pub record Sender (pairs : List Pair) (a b e : ℕ) : Type 0 where
   pub pair : Pair
   pub side : Side
   pub here : slice_get pairs channel ≡ Some pair
-  pub from : (place pair side).core ≡ a
-  pub to : place pair (other_side side) ≡ peer b e
+  pub from : (end_of_side pair side).core ≡ a
+  pub to : end_of_side pair (other_side side) ≡ peer b e
 
 -- whose item on a link it is
 abbrev pub IsFrom : List Pair → (a b : ℕ) → Moved → Type 0

@@ -11,7 +11,7 @@ use Rattle.xs_instr.specs.declared.state.Sent.{Sent}
 use Rattle.xs_instr.specs.declared.state.Token.{Token}
 use Rattle.xs_instr.specs.Ends.{tokens_to, credits_to, all_sent, Peer, Gone, goes_by, tokens_go, tokens_taken}
 use Rattle.xs_instr.specs.Machine.{link_of, link_put, on_links, came}
-use Rattle.xr_channels.specs.Wires.{Links, tokens_in, ends_in, tokens_at, token_by, tokens_for}
+use Rattle.xr_channels.specs.Channels.{Links, tokens_in, ends_in, tokens_at, token_by, tokens_for}
 use Rattle.xr_channels.proofs.Tokens.Views.{get_set, get_set_other, same_num, num_other, tokens_of_end, IsEnd, same_tokens, end_after, tokens_arrive, tokens_arrive_other, credits_arrive, credit_arrives, Square, get_put, get_put_other, square_put, square_sent, items_of, link_sent, link_sent_other, tokens_for_append, tokens_for_here, tokens_for_other, tokens_for_credits}
 
 -- an end by its core and number

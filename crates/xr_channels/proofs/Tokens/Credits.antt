@@ -7,7 +7,7 @@ use Rattle.xs_instr.specs.declared.state.Moved.{Moved}
 use Rattle.xs_instr.specs.declared.state.Moved.TheVariants.{Tok, Credit}
 use Rattle.xs_instr.specs.declared.state.Token.{Token}
 use Rattle.xs_instr.specs.Ends.{arrives, all_arrive, token_at, credit_at, tokens_to, credits_to}
-use Rattle.xr_channels.specs.Wires.{ends_in}
+use Rattle.xr_channels.specs.Channels.{ends_in}
 use Rattle.xr_channels.specs.Balance.{credits_in, credits_at}
 use Rattle.xr_channels.proofs.Tokens.Views.{get_set, get_set_other, same_num, IsEnd}
 

@@ -5,7 +5,7 @@ use Rattle.std.proofs.lemmas.Bool.{leb-false}
 use Rattle.xs_instr.specs.declared.state.Token.{Token}
 use Rattle.xs_instr.specs.Ends.{word_tokens, control_token, data_token}
 use Rattle.xc_meaning.specs.States.Channels.{Parcel, offer, opening, word, closing, taken, words_among}
-use Rattle.xr_channels.specs.Phases.{END, ACK, OPEN, Question, offers, opens, closes, Phase, between, sends_end, awaits_ack, checks_end, sends_ack, was_closed, streams, Spot, spot, encodes, unsent, unread, ahead, asked, turns, reads_by, Path, questions, answers, Asked, is_open, is_answered, Line, Way, Talk}
+use Rattle.xr_channels.specs.Phases.{END, ACK, OPEN, Question, offers, opens, closes, Phase, between, sends_end, awaits_ack, checks_end, sends_ack, was_closed, streams, SideState, side_state, encodes, unsent, unread, ahead, asked, switches_mode, reads_by, Path, questions, answers, Asked, is_open, is_answered, Direction, Transit, TransitRel}
 use Rattle.xr_channels.proofs.Tokens.Lines.{no_question, nothing_both}
 
 -- tokens that differ
@@ -70,7 +70,7 @@ stays f (closing ∷ ps) to q h = absurd q
 stays f (taken ∷ ps) to q h = stays f ps to q h
 
 -- what is unread by the receiver, where nothing is on the link
-pub unread_length : (s r : Spot) (l : Line) → Way s r l → l.link ≡ [] → l.late ≡ [] → length (ahead r.phase) + (length l.buffer + length (unsent s.phase)) ≡ length (unread r.phase) + length (encodes l.inbox)
+pub unread_length : (s r : SideState) (l : Direction) → Transit s r l → l.link ≡ [] → l.late ≡ [] → length (ahead r.phase) + (length l.buffer + length (unsent s.phase)) ≡ length (unread r.phase) + length (encodes l.inbox)
 unread_length s r l h none on_time =
     let more : unsent s.phase ≡ h.more = ap (λ x. x ++ unsent s.phase) (sym none) ∙ h.coming ∙ ap (λ x. h.more ++ encodes x) on_time ∙ append-nil h.more in
     let all = ap length h.come in
@@ -81,7 +81,7 @@ unread_length s r l h none on_time =
     omega (arith, all, a, b, c, d)
 
 -- with what is on the link too, where nothing is late and nothing is owed
-pub room_length : (s r : Spot) (l : Line) → Way s r l → unsent s.phase ≡ [] → l.late ≡ [] → length (ahead r.phase) + (length l.buffer + length l.link) ≡ length (unread r.phase) + length (encodes l.inbox)
+pub room_length : (s r : SideState) (l : Direction) → Transit s r l → unsent s.phase ≡ [] → l.late ≡ [] → length (ahead r.phase) + (length l.buffer + length l.link) ≡ length (unread r.phase) + length (encodes l.inbox)
 room_length s r l h none on_time =
     let more : l.link ≡ h.more = sym (append-nil l.link) ∙ ap (λ x. l.link ++ x) (sym none) ∙ h.coming ∙ ap (λ x. h.more ++ encodes x) on_time ∙ append-nil h.more in
     let all = ap length h.come in
@@ -92,14 +92,14 @@ room_length s r l h none on_time =
     omega (arith, all, a, b, c, d)
 
 -- OUT and OUTCT END inside a transaction: with credits there is room. At OUT at most 4 tokens are under way, at OUTCT at most 7.
-pub has_room : (r : Spot) (go come : Line) → Talk (spot between true) r go come → length go.buffer + length go.link ≤ 7 → words_among go.inbox < 2
+pub has_room : (r : SideState) (go come : Direction) → TransitRel (side_state between true) r go come → length go.buffer + length go.link ≤ 7 → words_among go.inbox < 2
 has_room r go come h few = by r.phase refl
   where
     q : questions go.inbox ≡ []
     q = ap questions (sym (append-nil go.inbox)) ∙ ap (λ l. questions (go.inbox ++ l)) (sym h.outward.late) ∙ (no_question (go.inbox ++ go.late) come.inbox h.mine).0
 
     sum : length (ahead r.phase) + (length go.buffer + length go.link) ≡ length (unread r.phase) + length (encodes go.inbox)
-    sum = room_length (spot between true) r go h.outward refl h.outward.late
+    sum = room_length (side_state between true) r go h.outward refl h.outward.late
 
     fit : 4 * words_among go.inbox ≤ length (encodes go.inbox)
     fit = words_fit go.inbox
@@ -150,14 +150,14 @@ encodes_none (closing ∷ ps) h = cc
 encodes_none (taken ∷ ps) h = cc
 
 -- so all that a sender has begun is put, and is at the end
-pub nothing_late : (s r : Spot) (l : Line) → Way s r l → unsent s.phase ≡ [] → l.link ≡ [] → (l.late ≡ []) × (l.buffer ≡ [] → ahead r.phase ≡ [] → unread r.phase ≡ [] → l.inbox ≡ [])
+pub nothing_late : (s r : SideState) (l : Direction) → Transit s r l → unsent s.phase ≡ [] → l.link ≡ [] → (l.late ≡ []) × (l.buffer ≡ [] → ahead r.phase ≡ [] → unread r.phase ≡ [] → l.inbox ≡ [])
 nothing_late s r l h u link =
     let both = nothing_both h.more (encodes l.late) (sym (ap (λ x. x ++ unsent s.phase) link ∙ u) ∙ h.coming) in
     (encodes_none l.late both.1, λ b a n. encodes_none l.inbox (sym (ap (λ x. x ++ encodes l.inbox) n) ∙ sym h.come ∙ ap (λ x. x ++ (l.buffer ++ h.more)) a ∙ ap (λ x. x ++ h.more) b ∙ both.0))
 
 -- a phase that neither awaits an answer nor turns
-pub steady_reads : (f : Phase) (r s : Spot) (l : Line) → r.phase ≡ f → turns f ≡ false → OnlyOffers (questions l.inbox) → Way s r l → (reads_by f r.inside ≡ s.inside) × (reads_by f r.inside ≡ false → words_among l.inbox ≡ 0)
-steady_reads f r s l e t q h = stays (reads_by f r.inside) l.inbox s.inside q (subst (λ b. Path b (reads_by f r.inside) l.inbox s.inside) t (subst (λ y. Path (turns y) (reads_by y r.inside) l.inbox s.inside) e h.path))
+pub steady_reads : (f : Phase) (r s : SideState) (l : Direction) → r.phase ≡ f → switches_mode f ≡ false → OnlyOffers (questions l.inbox) → Transit s r l → (reads_by f r.inside ≡ s.inside) × (reads_by f r.inside ≡ false → words_among l.inbox ≡ 0)
+steady_reads f r s l e t q h = stays (reads_by f r.inside) l.inbox s.inside q (subst (λ b. Path b (reads_by f r.inside) l.inbox s.inside) t (subst (λ y. Path (switches_mode y) (reads_by y r.inside) l.inbox s.inside) e h.path))
 
 -- at most one token is still to be taken
 pub small_unread : (f : Phase) → length (unread f) ≤ 1

@@ -3,34 +3,34 @@ use Rattle.std.proofs.Common.{◌≡◌, suc, ◌+◌, Bool, true, false, List, 
 use Rattle.std.specs.Prelude.{not}
 use Rattle.xs_instr.specs.declared.state.Token.{Token}
 use Rattle.xc_meaning.specs.States.Channels.{Parcel, offer, opening, word, closing, taken}
-use Rattle.xr_channels.specs.Phases.{Question, offers, opens, closes, Phase, between, encode, encodes, asked, Path, questions, answers, Asked, is_open, is_answered, Line}
+use Rattle.xr_channels.specs.Phases.{Question, offers, opens, closes, Phase, between, encode, encodes, asked, Path, questions, answers, Asked, is_open, is_answered, Direction}
 
 -- the line with more tokens sent, and with more that is late
-abbrev pub sent_on : Line → List Token → Line
+abbrev pub sent_on : Direction → List Token → Direction
 sent_on l ks = record l { link = l.link ++ ks }
 
 -- and more that is late
-abbrev pub told_late : Line → List Token → Parcel → Line
+abbrev pub told_late : Direction → List Token → Parcel → Direction
 told_late l ks p = record l { link = l.link ++ ks; late = l.late ++ p ∷ [] }
 
 -- with more tokens sent, and a parcel put
-abbrev pub told_now : Line → List Token → Parcel → Line
+abbrev pub told_now : Direction → List Token → Parcel → Direction
 told_now l ks p = record l { link = l.link ++ ks; inbox = l.inbox ++ p ∷ [] }
 
 -- what was late first is put
-abbrev pub put_late : Line → Parcel → List Parcel → Line
+abbrev pub put_late : Direction → Parcel → List Parcel → Direction
 put_late l p rest = record l { inbox = l.inbox ++ p ∷ []; late = rest }
 
 -- with tokens taken, or a parcel taken, or both
-abbrev pub read_to : Line → List Token → List Parcel → Line
+abbrev pub read_to : Direction → List Token → List Parcel → Direction
 read_to l ts ps = record l { buffer = ts; inbox = ps }
 
 -- a token comes from the link
-abbrev pub come_on : Line → Token → List Token → Line
+abbrev pub come_on : Direction → Token → List Token → Direction
 come_on l t rest = record l { buffer = l.buffer ++ t ∷ []; link = rest }
 
 -- at the start
-abbrev pub no_line : Line
+abbrev pub no_line : Direction
 no_line = record { buffer = []; link = []; inbox = []; late = [] }
 
 -- the tokens of parcels

@@ -7,7 +7,7 @@ use Rattle.xs_instr.specs.declared.state.CoreState.{CoreState}
 use Rattle.xs_instr.specs.Machine.{link_of, no_links, boot}
 use Rattle.xs_instr.specs.Valid.{Valid}
 use Rattle.xc_meaning.specs.States.Channels.{Side, first, second, other_side, Inboxes}
-use Rattle.xr_channels.specs.Wires.{Links, tokens_at, tokens_for, place, Ghosts, line, Wires, start_ghosts}
+use Rattle.xr_channels.specs.Channels.{Links, tokens_at, tokens_for, end_of_side, Ghosts, direction_to, Channels, start_ghosts}
 use Rattle.xr_channels.specs.Balance.{Local}
 use Rattle.xr_channels.proofs.Tokens.Views.{tokens_of_end}
 use Rattle.xr_channels.proofs.Tokens.Changes.{core_same, IsSelfless}
@@ -16,7 +16,7 @@ use Rattle.xr_channels.proofs.All.Begins.{wires_begin, boot_tokens, boot_links}
 use Rattle.xr_channels.proofs.Laws.Balances.{balanced_still, balanced_begins}
 
 -- where no token changes, as at a credit's arrival
-pub same_wires : (pairs : List Pair) (cores cores' : List CoreState) (links links' : Links) (boxes : List Inboxes) (g : Ghosts) → ((x f : ℕ) → tokens_at cores' x f ≡ tokens_at cores x f) → ((x y f : ℕ) → tokens_for f (link_of links' x y) ≡ tokens_for f (link_of links x y)) → IsSelfless links' → Wires pairs cores links boxes g → Wires pairs cores' links' boxes g
+pub same_wires : (pairs : List Pair) (cores cores' : List CoreState) (links links' : Links) (boxes : List Inboxes) (g : Ghosts) → ((x f : ℕ) → tokens_at cores' x f ≡ tokens_at cores x f) → ((x y f : ℕ) → tokens_for f (link_of links' x y) ≡ tokens_for f (link_of links x y)) → IsSelfless links' → Channels pairs cores links boxes g → Channels pairs cores' links' boxes g
 same_wires pairs cores cores' links links' boxes g buffers ways selves h = record {
   talks = λ k p at_k. stands_is _ _ _ _ _ _ _ _ refl refl (same k p second) (same k p first) (h.talks k p at_k);
   boxes = h.boxes;
@@ -24,11 +24,11 @@ same_wires pairs cores cores' links links' boxes g buffers ways selves h = recor
   selves = selves;
 }
   where
-    same : (k : ℕ) (p : Pair) (s : Side) → line cores links boxes g p k s ≡ line cores' links' boxes g p k s
-    same k p s = line_is _ _ _ _ _ _ _ _ (sym (buffers (place p s).core (place p s).end)) (sym (ways (place p (other_side s)).core (place p s).core (place p s).end)) refl refl
+    same : (k : ℕ) (p : Pair) (s : Side) → direction_to cores links boxes g p k s ≡ direction_to cores' links' boxes g p k s
+    same k p s = line_is _ _ _ _ _ _ _ _ (sym (buffers (end_of_side p s).core (end_of_side p s).end)) (sym (ways (end_of_side p (other_side s)).core (end_of_side p s).core (end_of_side p s).end)) refl refl
 
 -- a trap, a tick and each step that leaves the ends of its core
-pub keeps : (pairs : List Pair) (cores : List CoreState) (links : Links) (boxes : List Inboxes) (g : Ghosts) (c : ℕ) (core left : CoreState) → slice_get cores c ≡ Some core → left.ends ≡ core.ends → Wires pairs cores links boxes g → Wires pairs (slice_set cores c left) links boxes g
+pub keeps : (pairs : List Pair) (cores : List CoreState) (links : Links) (boxes : List Inboxes) (g : Ghosts) (c : ℕ) (core left : CoreState) → slice_get cores c ≡ Some core → left.ends ≡ core.ends → Channels pairs cores links boxes g → Channels pairs (slice_set cores c left) links boxes g
 keeps pairs cores links boxes g c core left at_c same h =
     same_wires pairs cores (slice_set cores c left) links links boxes g
     (λ x f. core_same cores c x f core left at_c (λ e. ap (λ l. tokens_of_end l f) same)) (λ x y f. refl) h.selves h

@@ -9,7 +9,7 @@ use Rattle.xs_instr.specs.declared.state.Moved.TheVariants.{Tok, Credit}
 use Rattle.xs_instr.specs.declared.state.Token.{Token}
 use Rattle.xs_instr.specs.Ends.{arrives, all_arrive, token_at, credit_at, tokens_to, credits_to, all_sent}
 use Rattle.xs_instr.specs.Machine.{items_in, link_in, link_of, link_put_in, link_put, on_links}
-use Rattle.xr_channels.specs.Wires.{Links, tokens_in, token_by, token_for, tokens_for}
+use Rattle.xr_channels.specs.Channels.{Links, tokens_in, token_by, token_for, tokens_for}
 
 -- an element that is written
 pub get_set : {X : Type 0} (xs : List X) (i : ℕ) (x y : X) → slice_get xs i ≡ Some x → slice_get (slice_set xs i y) i ≡ Some y

@@ -14,7 +14,7 @@ use Rattle.xr_match.specs.Systems.{SomeIs}
 use Rattle.xr_simulation.specs.Roles.{IsParent, Roles, got_by, own_branches, used_by}
 use Rattle.xr_simulation.specs.Runners.{Setting, Runner}
 use Rattle.xr_simulation.specs.ThreadViews.{Guarantee, giving_back}
-use Rattle.xr_simulation.specs.Standing.{AreLoose, IsRun, Stand, Stands, none_rests}
+use Rattle.xr_simulation.specs.MatchStates.{AreLoose, IsRun, RunsBranch, ThreadRel, none_rests}
 use Rattle.xr_simulation.specs.Transfers.{Transfer}
 use Rattle.xr_simulation.specs.Wired.{AreWired, HasAlone}
 use Rattle.xr_simulation.proofs.Relation.Moments.{Moment, ThreadAt}
@@ -165,15 +165,15 @@ module _ {moment : Moment none_rests} (thread_at : ThreadAt moment None)
   module _ (may_rest' : (core thread : ℕ) → Bool) (branch : Branch) (known : slice_get x.state.branches r.branch ≡ Some branch)
       (wired : AreWired g who_next watched_next.machine x.state)
       (alone : (transfer : Transfer) → next ≡ Some transfer → HasAlone x.state.branches transfer.channel transfer.side r.branch)
-      (stand : Stand g s (may_rest' c t) None left x.state (watched_next.lives c t) (told_by g.program g.stimulus x [] x.state).actions branch) where
+      (stand : RunsBranch g s (may_rest' c t) None left x.state (watched_next.lives c t) (told_by g.program g.stimulus x [] x.state).actions branch) where
     abbrev more : ℕ → ℕ
     more = (told_by g.program g.stimulus x [] x.state).actions
 
-    own_stand : (u : ℕ) → only_thread t u ≡ true → Stands g (may_rest' c u) left x.state (watched_next.lives c u) more (who_next c u)
+    own_stand : (u : ℕ) → only_thread t u ≡ true → ThreadRel g (may_rest' c u) left x.state (watched_next.lives c u) more (who_next c u)
     own_stand u m =
-        subst (λ k. Stands g (may_rest' c k) left x.state (watched_next.lives c k) more (who_next c k)) (sym (eqb-true u t m))
-        (subst (Stands g (may_rest' c t) left x.state (watched_next.lives c t) more) (sym (role_here who c t (used_by s None)))
-        (subst (λ o. SomeIs o (Stand g s (may_rest' c t) None left x.state (watched_next.lives c t) more)) (sym known) stand))
+        subst (λ k. ThreadRel g (may_rest' c k) left x.state (watched_next.lives c k) more (who_next c k)) (sym (eqb-true u t m))
+        (subst (ThreadRel g (may_rest' c t) left x.state (watched_next.lives c t) more) (sym (role_here who c t (used_by s None)))
+        (subst (λ o. SomeIs o (RunsBranch g s (may_rest' c t) None left x.state (watched_next.lives c t) more)) (sym known) stand))
 
     own_alone : (u : ℕ) (i : Runner) (hand : Option Acquired) (transfer : Transfer) → only_thread t u ≡ true → who_next c u ≡ used_by i hand → i.transfer ≡ Some transfer → HasAlone x.state.branches transfer.channel transfer.side i.branch
     own_alone u i hand transfer m at its =

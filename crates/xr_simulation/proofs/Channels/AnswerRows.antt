@@ -12,9 +12,9 @@ use Rattle.xc_meaning.specs.States.Worlds.{World}
 use Rattle.xr_simulation.specs.Fits.{ItemsFit}
 use Rattle.xr_simulation.specs.Runners.{home, shrunk}
 use Rattle.xr_simulation.specs.ThreadViews.{running}
-use Rattle.xr_simulation.specs.Standing.{IfTrue, IsAtRest, StandsWith, none_rests}
+use Rattle.xr_simulation.specs.MatchStates.{IfTrue, IsAtRest, ProgressWith, none_rests}
 use Rattle.xr_simulation.specs.Transfers.{StopsIn, all_but_first, in_phase}
-use Rattle.xr_simulation.specs.Turns.{Errs, InTransfer, IsBehind, Runs, cost}
+use Rattle.xr_simulation.specs.NextStep.{Errs, InTransfer, IsBehind, Runs, cost}
 use Rattle.xr_simulation.specs.Wired.{boxes_in}
 use Rattle.xr_simulation.proofs.Channels.Worlds.{answered, answered_boxes, awaiting_errs, takes_answer}
 use Rattle.xr_simulation.proofs.Channels.EndRows.{AtEnd, Goal, acts_row, boxes_taken, checks_row, goes_out, inside_there, near_end, taken_there}
@@ -29,7 +29,7 @@ use Rattle.xr_simulation.proofs.Channels.TransferErrs.{errs_followed}
 use Rattle.xr_simulation.proofs.Channels.TransferRows.{alone_elsewhere}
 use Rattle.xr_simulation.proofs.RelyGuarantee.Phases.{rest_as}
 use Rattle.xr_simulation.proofs.RelyGuarantee.Events.{here_at}
-use Rattle.xr_channels.specs.Phases.{awaits_ack, between, offers, spot}
+use Rattle.xr_channels.specs.Phases.{awaits_ack, between, offers, side_state}
 use Rattle.xr_channels.proofs.All.Frames.{boxed, length_box, parcels}
 use Rattle.xr_channels.proofs.All.Near as near
 use Rattle.xr_channels.proofs.All.Near.{Next}
@@ -92,7 +92,7 @@ module _ {moment : Moment none_rests} {thread_at : ThreadAt moment None} (branch
 
     module _ (es : List ChanEnd) where
       -- the thread is at the code of what is left
-      at_rest : StandsWith g (own.s does_answer) (rests_alone c t c t) None rest (j + cost g r) (behind does_answer es)
+      at_rest : ProgressWith g (own.s does_answer) (rests_alone c t c t) None rest (j + cost g r) (behind does_answer es)
       at_rest =
           inr (inr (subst (λ b. IfTrue g (own.s does_answer) b
           (IsAtRest g (own.s does_answer) rest (j + cost g r) (behind does_answer es))) (sym (rests_there c t)) (
@@ -113,7 +113,7 @@ module _ {moment : Moment none_rests} {thread_at : ThreadAt moment None} (branch
 
     made_so : (es : List ChanEnd) → slot (home g r) a r.thread ≡ Made (left does_answer es) None [] →
         Next (near_end branch_at at_end) r.thread (running r.tie h.pc h.regs) (left does_answer es) (taken_there branch_at at_end ps)
-        (spot between false) → Goal branch_at at_end
+        (side_state between false) → Goal branch_at at_end
     made_so =
         acts_row branch_at at_end does_answer between (goes_out refl refl) (rests_alone c t) (λ d u ne. alone_elsewhere c (nat_eq u t) d ne)
         j (j + cost g r) (omega (arith, few)) (omega arith) (taken_there branch_at at_end ps)

@@ -22,10 +22,10 @@ use Rattle.xc_meaning.specs.Uses.{by_items}
 use Rattle.xl_chan.specs.Protocols.{Acts, sends, takes, takes_word}
 use Rattle.xl_image.specs.Images.{pair_of}
 use Rattle.xr_simulation.specs.Runners.{IsChannel, Runner, end_place, home}
-use Rattle.xr_simulation.specs.Standing.{StandsWith, none_rests}
+use Rattle.xr_simulation.specs.MatchStates.{ProgressWith, none_rests}
 use Rattle.xr_simulation.specs.ThreadViews.{running}
 use Rattle.xr_simulation.specs.Transfers.{Transfer, in_phase}
-use Rattle.xr_simulation.specs.Turns.{cost}
+use Rattle.xr_simulation.specs.NextStep.{cost}
 use Rattle.xr_simulation.specs.Wired.{AreSidesOn, HasAlone, IsLine, boxes_in}
 use Rattle.xr_simulation.proofs.Channels.Inboxes.{line_boxed, line_parcels}
 use Rattle.xr_simulation.proofs.Channels.Ends as ends
@@ -39,8 +39,8 @@ use Rattle.xr_simulation.proofs.Channels.OwnTransfers.{ActsAtEnd, alone_still, d
 use Rattle.xr_simulation.proofs.Channels.TransferBegins as begin
 use Rattle.xr_simulation.proofs.Channels.WiredMoves.{Moves, one_line, wired_moves}
 use Rattle.xr_channels.specs.Balance.{Local}
-use Rattle.xr_channels.specs.Phases.{Phase, between, spot}
-use Rattle.xr_channels.specs.Wires.{place}
+use Rattle.xr_channels.specs.Phases.{Phase, between, side_state}
+use Rattle.xr_channels.specs.Channels.{end_of_side}
 use Rattle.xr_channels.proofs.All.Frames.{boxed, length_box, parcels}
 use Rattle.xr_channels.proofs.All.Near as near
 use Rattle.xr_channels.proofs.All.Near.{NearCheck, NearEnd, NearEndCheck, NearInput, NearSend, Next, checks_makes, checks_pauses, checks_traps, end_makes, end_pauses, inputs_makes, inputs_pauses, inputs_traps, sends_makes, sends_pauses}
@@ -57,7 +57,7 @@ pub record AtEnd {moment : Moment none_rests} (thread_at : ThreadAt moment None)
   pub line : ℕ
   pub is_line : IsLine moment.setting.program line channel
   pub on_core : AreSidesOn moment.setting.program channel thread_at.core
-  pub stands : moment.standing.wired.ghosts.spots line side ≡ spot phase false
+  pub stands : moment.standing.wired.ghosts.side_states line side ≡ side_state phase false
   pub moves : (s : Runner) (later : Phase) → IsThen channel side s.transfer later →
       Moves moment.setting moment.roles thread_at.core thread_at.thread thread_at.runner s channel side later
   pub alone : HasAlone moment.told.state.branches channel side thread_at.runner.branch
@@ -140,7 +140,7 @@ module _ {moment : Moment none_rests} {thread_at : ThreadAt moment None} (branch
   abbrev own_end : ChanEnd
   own_end = end thread_at channel side line is_line sides_on
 
-  own_end_is : slice_get a.ends (place (pair_of g.program channel) side).end ≡ Some own_end
+  own_end_is : slice_get a.ends (end_of_side (pair_of g.program channel) side).end ≡ Some own_end
   own_end_is = end_is thread_at channel side line is_line sides_on
 
   pub known : channel < length g.program.channels
@@ -204,41 +204,41 @@ module _ {moment : Moment none_rests} {thread_at : ThreadAt moment None} (branch
     -- the step goes on, and the program does nothing
     module _ (on : branch.mode ≡ runs) (next : Option Transfer) (later : Phase) (then : IsThen channel side next later)
         (rests : (core thread : ℕ) → Bool) (elsewhere : (d u : ℕ) → d ≢ c → rests d u ≡ false) (fewer : ℕ) (few : suc fewer ≤ stand.left)
-        (by : (es : List ChanEnd) → StandsWith g (record r { transfer = next }) (rests c t) next branch.items fewer
+        (by : (es : List ChanEnd) → ProgressWith g (record r { transfer = next }) (rests c t) next branch.items fewer
         (record { core = left regs es; world = x.state; hand = None })) where
       pub goes_row : (es : List ChanEnd) → slot (home g r) a r.thread ≡ Made (left regs es) None [] →
-          Next near_end r.thread thread (left regs es) boxes (spot later false) → Goal
+          Next near_end r.thread thread (left regs es) boxes (side_state later false) → Goal
       goes_row es is_made made =
           followed rests elsewhere (left regs es) None [] (ap (stepped (home g r) w.machine r.core r.thread a) is_made)
           (goes_on_so branch_at on pc regs here es next rests fewer few (by es)
           (wired_moves g is.lines who w.machine x.state st.wired c t a at_c r None runs_r (record r { transfer = next }) None channel side
           line is_line sides_on later
           (at_end.moves (record r { transfer = next }) later then) (left regs es) _ x.state refl made.size refl
-          (left_local thread_at channel side line is_line sides_on (left regs es) boxes (spot later false) made.local))
+          (left_local thread_at channel side line is_line sides_on (left regs es) boxes (side_state later false) made.local))
           (alone_then channel side later next then x.state.branches r.branch at_end.alone))
 
     -- What the step does, by what it finds.
 
     pub sends_row : (pos : Pos) (ks : List Token) (boxes' : List Inboxes) (later : Phase) →
         Acts (home g r) r.thread (end_place g r channel side) thread pos (sends ks) pc regs →
-        NearSend near_end r.thread thread ks boxes' (spot later false) →
+        NearSend near_end r.thread thread ks boxes' (side_state later false) →
         ((es : List ChanEnd) → slot (home g r) a r.thread ≡ Made (left regs es) None [] →
-        Next near_end r.thread thread (left regs es) boxes' (spot later false) → Goal) →
+        Next near_end r.thread thread (left regs es) boxes' (side_state later false) → Goal) →
         Goal
     sends_row pos ks boxes' later acts result made_so =
         by ((acts_there thread_at channel side line is_line sides_on r.tie pos (sends ks) pc regs acts).by a own_end here own_end_is) result
       where
         by : slot (home g r) a r.thread ≡ near.sent_did near_end r.thread thread ks →
-            NearSend near_end r.thread thread ks boxes' (spot later false) → Goal
+            NearSend near_end r.thread thread ks boxes' (side_state later false) → Goal
         by e (sends_pauses did few) = pauses (e ∙ did)
         by e (sends_makes did made) = made_so (near.sent_gone near_end r.thread thread ks).ends (e ∙ did) made
 
     pub checks_row : (pos : Pos) (n : ℕ) (given : Parcel) (wanted : Parcel → Bool) (boxes' : List Parcel → List Inboxes) (later : Phase) →
         Acts (home g r) r.thread (end_place g r channel side) thread pos (takes n) pc regs →
-        NearCheck near_end r.thread thread n given wanted boxes' (spot later false) →
+        NearCheck near_end r.thread thread n given wanted boxes' (side_state later false) →
         ((ps : List Parcel) → parcels x.state.inboxes channel side ≡ given ∷ ps → (es : List ChanEnd) →
         slot (home g r) a r.thread ≡ Made (left regs es) None [] →
-        Next near_end r.thread thread (left regs es) (boxes' ps) (spot later false) → Goal) →
+        Next near_end r.thread thread (left regs es) (boxes' ps) (side_state later false) → Goal) →
         ((p : Parcel) (ps : List Parcel) → parcels x.state.inboxes channel side ≡ p ∷ ps → wanted p ≡ false →
         slot (home g r) a r.thread ≡ Traps Mismatch → Goal) →
         Goal
@@ -246,32 +246,32 @@ module _ {moment : Moment none_rests} {thread_at : ThreadAt moment None} (branch
         by ((acts_there thread_at channel side line is_line sides_on r.tie pos (takes n) pc regs acts).by a own_end here own_end_is) result
       where
         by : slot (home g r) a r.thread ≡ near.check_did near_end r.thread thread n →
-            NearCheck near_end r.thread thread n given wanted boxes' (spot later false) → Goal
+            NearCheck near_end r.thread thread n given wanted boxes' (side_state later false) → Goal
         by e (checks_pauses did none) = pauses (e ∙ did)
         by e (checks_makes ps did found made) = made_so ps (found_there (given ∷ ps) found)
             (near.taken_gone near_end r.thread thread 1).ends (e ∙ did) made
         by e (checks_traps p ps did found wrong) = trapped_so p ps (found_there (p ∷ ps) found) wrong (e ∙ did)
 
     pub ends_row : (pos : Pos) (later : Phase) → Acts (home g r) r.thread (end_place g r channel side) thread pos (takes 1) pc regs →
-        NearEndCheck near_end r.thread thread (spot later false) →
+        NearEndCheck near_end r.thread thread (side_state later false) →
         ((es : List ChanEnd) → slot (home g r) a r.thread ≡ Made (left regs es) None [] →
-        Next near_end r.thread thread (left regs es) boxes (spot later false) → Goal) →
+        Next near_end r.thread thread (left regs es) boxes (side_state later false) → Goal) →
         Goal
     ends_row pos later acts result made_so =
         by ((acts_there thread_at channel side line is_line sides_on r.tie pos (takes 1) pc regs acts).by a own_end here own_end_is) result
       where
         by : slot (home g r) a r.thread ≡ near.check_did near_end r.thread thread 1 →
-            NearEndCheck near_end r.thread thread (spot later false) → Goal
+            NearEndCheck near_end r.thread thread (side_state later false) → Goal
         by e (end_pauses did none) = pauses (e ∙ did)
         by e (end_makes did made) = made_so (near.taken_gone near_end r.thread thread 1).ends (e ∙ did) made
 
     pub word_row : (pos : Pos) (to : Reg) (given : ℕ → Parcel) (wanted : Parcel → Bool) (boxes' : List Parcel → List Inboxes)
         (later : Phase) →
         Acts (home g r) r.thread (end_place g r channel side) thread pos (takes_word to) pc regs →
-        NearInput near_end r.thread thread to given wanted boxes' (spot later false) →
+        NearInput near_end r.thread thread to given wanted boxes' (side_state later false) →
         ((v : ℕ) (ps : List Parcel) → parcels x.state.inboxes channel side ≡ given v ∷ ps → (es : List ChanEnd) →
         slot (home g r) a r.thread ≡ Made (left (reg_set regs to v) es) (Some (Com r.core v)) [] →
-        Next near_end r.thread thread (left (reg_set regs to v) es) (boxes' ps) (spot later false) → Goal) →
+        Next near_end r.thread thread (left (reg_set regs to v) es) (boxes' ps) (side_state later false) → Goal) →
         ((p : Parcel) (ps : List Parcel) → parcels x.state.inboxes channel side ≡ p ∷ ps → wanted p ≡ false →
         slot (home g r) a r.thread ≡ Traps Mismatch → Goal) →
         Goal
@@ -280,7 +280,7 @@ module _ {moment : Moment none_rests} {thread_at : ThreadAt moment None} (branch
         own_end_is) result
       where
         by : slot (home g r) a r.thread ≡ near.in_did near_end r.thread thread to →
-            NearInput near_end r.thread thread to given wanted boxes' (spot later false) → Goal
+            NearInput near_end r.thread thread to given wanted boxes' (side_state later false) → Goal
         by e (inputs_pauses did waits few) = pauses (e ∙ did)
         by e (inputs_makes v ps did found made) = made_so v ps (found_there (given v ∷ ps) found)
             (near.taken_gone near_end r.thread thread 4).ends (e ∙ did) made
@@ -292,9 +292,9 @@ module _ {moment : Moment none_rests} {thread_at : ThreadAt moment None} (branch
       (enough : further ≤ j + 2 + cost g r)
       (boxes' : List Inboxes) (boxes_are : boxes_in g.program does.world.inboxes ≡ boxes')
       (as_many : length does.world.inboxes ≡ length x.state.inboxes)
-      (by : (es : List ChanEnd) → StandsWith g (own.s does) (rests c t) does.transfer does.items further (own.behind does es)) where
+      (by : (es : List ChanEnd) → ProgressWith g (own.s does) (rests c t) does.transfer does.items further (own.behind does es)) where
     pub acts_row : (es : List ChanEnd) → slot (home g r) a r.thread ≡ Made (own.left does es) does.made [] →
-        Next near_end r.thread (running r.tie does.pc does.before) (own.left does es) boxes' (spot later false) → Goal
+        Next near_end r.thread (running r.tie does.pc does.before) (own.left does es) boxes' (side_state later false) → Goal
     acts_row es is_made made =
         followed rests elsewhere (own.left does es) does.made [] (ap (stepped (home g r) w.machine r.core r.thread a) is_made)
         (does_so does es rests j further few enough (by es)
@@ -302,7 +302,7 @@ module _ {moment : Moment none_rests} {thread_at : ThreadAt moment None} (branch
         sides_on later
         (at_end.moves (own.s does) later then) (own.left does es) _ does.world refl made.size as_many
         (subst (λ l. Local g.image.chans (slice_set w.machine.cores c (own.left does es)) l
-        (moved_to st.wired.ghosts line side (spot later false) [])) (sym boxes_are)
-        (left_local thread_at channel side line is_line sides_on (own.left does es) boxes' (spot later false) made.local)))
+        (moved_to st.wired.ghosts line side (side_state later false) [])) (sym boxes_are)
+        (left_local thread_at channel side line is_line sides_on (own.left does es) boxes' (side_state later false) made.local)))
         (alone_then channel side later does.transfer then does.world.branches r.branch
         (alone_still does es channel side known at_end.alone)))

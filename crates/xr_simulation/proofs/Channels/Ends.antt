@@ -13,11 +13,11 @@ use Rattle.xl_par.specs.Acquired.{Acquired}
 use Rattle.xl_plan.specs.Layout.{end_number}
 use Rattle.xr_simulation.specs.Runners.{end_place, home}
 use Rattle.xr_simulation.specs.ThreadViews.{running}
-use Rattle.xr_simulation.specs.Standing.{none_rests}
+use Rattle.xr_simulation.specs.MatchStates.{none_rests}
 use Rattle.xr_simulation.specs.Wired.{AreSidesOn, IsLine, boxes_in}
 use Rattle.xr_channels.specs.Balance.{Local}
-use Rattle.xr_channels.specs.Phases.{Spot}
-use Rattle.xr_channels.specs.Wires.{ends_in, place}
+use Rattle.xr_channels.specs.Phases.{SideState}
+use Rattle.xr_channels.specs.Channels.{ends_in, end_of_side}
 use Rattle.xr_channels.proofs.Tokens.Credits.{end_there}
 use Rattle.xr_channels.proofs.All.Near.{IsNear, NearEnd}
 use Rattle.xr_channels.proofs.Sides.Updates.{moved_to}
@@ -42,25 +42,25 @@ module _ {moment : Moment none_rests} {hand : Option Acquired} (thread_at : Thre
   core_is = st.roles.core c t r hand runs_r
 
   -- where the channel's ends are
-  place_core : (s : Side) → (place pair s).core ≡ c
+  place_core : (s : Side) → (end_of_side pair s).core ≡ c
   place_core first = on_core first
   place_core second = on_core second
 
-  place_end : (s : Side) → (place pair s).end ≡ end_place g r channel s
+  place_end : (s : Side) → (end_of_side pair s).end ≡ end_place g r channel s
   place_end first = ap (λ d. end_number g.program d channel first) (on_core first ∙ sym core_is)
   place_end second = ap (λ d. end_number g.program d channel second) (on_core second ∙ sym core_is)
 
-  at_place : slice_get w.machine.cores (place pair side).core ≡ Some a
+  at_place : slice_get w.machine.cores (end_of_side pair side).core ≡ Some a
   at_place = ap (slice_get w.machine.cores) (place_core side) ∙ at_c
 
-  pub within : (place pair side).end < length a.ends
-  within = subst (λ o. (place pair side).end < length (ends_in o)) at_place (st.wired.local.balanced.ends line pair side at_line)
+  pub within : (end_of_side pair side).end < length a.ends
+  within = subst (λ o. (end_of_side pair side).end < length (ends_in o)) at_place (st.wired.local.balanced.ends line pair side at_line)
 
   abbrev pub end : ChanEnd
-  end = (end_there a.ends (place pair side).end within).end
+  end = (end_there a.ends (end_of_side pair side).end within).end
 
-  pub end_is : slice_get a.ends (place pair side).end ≡ Some end
-  end_is = (end_there a.ends (place pair side).end within).there
+  pub end_is : slice_get a.ends (end_of_side pair side).end ≡ Some end
+  end_is = (end_there a.ends (end_of_side pair side).end within).there
 
   pub is_near : IsNear g.image.chans w.machine.cores line pair side (home g r) a end
   is_near = record {
@@ -91,9 +91,9 @@ module _ {moment : Moment none_rests} {hand : Option Acquired} (thread_at : Thre
   }
 
   -- a step of the thread's on this end is one on the end of the channel's side
-  pub acts_there : (tie : Option ℕ) (pos : Pos) (act : Act) (pc : ℕ) (regs : Regs) → Acts (home g r) r.thread (end_place g r channel side) (running tie pc regs) pos act pc regs → Acts (home g r) r.thread (place pair side).end (running tie pc regs) pos act pc regs
+  pub acts_there : (tie : Option ℕ) (pos : Pos) (act : Act) (pc : ℕ) (regs : Regs) → Acts (home g r) r.thread (end_place g r channel side) (running tie pc regs) pos act pc regs → Acts (home g r) r.thread (end_of_side pair side).end (running tie pc regs) pos act pc regs
   acts_there tie pos act pc regs h = subst (λ e. Acts (home g r) r.thread e (running tie pc regs) pos act pc regs) (sym (place_end side)) h
 
   -- what a row leaves stands at the core
-  pub left_local : (left : CoreState) (boxes' : List Inboxes) (s : Spot) → Local g.image.chans (slice_set w.machine.cores (place pair side).core left) boxes' (moved_to st.wired.ghosts line side s []) → Local g.image.chans (slice_set w.machine.cores c left) boxes' (moved_to st.wired.ghosts line side s [])
+  pub left_local : (left : CoreState) (boxes' : List Inboxes) (s : SideState) → Local g.image.chans (slice_set w.machine.cores (end_of_side pair side).core left) boxes' (moved_to st.wired.ghosts line side s []) → Local g.image.chans (slice_set w.machine.cores c left) boxes' (moved_to st.wired.ghosts line side s [])
   left_local left boxes' s h = subst (λ k. Local g.image.chans (slice_set w.machine.cores k left) boxes' (moved_to st.wired.ghosts line side s [])) (place_core side) h

@@ -17,13 +17,13 @@ use Rattle.xc_meaning.specs.States.Channels.{Side}
 use Rattle.xl_par.specs.Acquired.{Acquired}
 use Rattle.xr_match.specs.Lives.{Life, Watched, watched_after}
 use Rattle.xr_match.specs.Meanings.{of_kernel}
-use Rattle.xr_match.specs.Sources.{Told}
+use Rattle.xr_match.specs.Sources.{Counted}
 use Rattle.xr_simulation.specs.Roles.{Roles, empty}
 use Rattle.xr_simulation.specs.Runners.{Runner, Setting, home}
 use Rattle.xr_simulation.specs.ThreadViews.{ThreadView, running}
-use Rattle.xr_simulation.specs.Standing.{EventsAre, Stand, StandsBy, StandsWith, ThreadIs, none_rests}
+use Rattle.xr_simulation.specs.MatchStates.{EventsAre, RunsBranch, ProgressBy, ProgressWith, ThreadIs, none_rests}
 use Rattle.xr_simulation.specs.Transfers.{Transfer, in_phase}
-use Rattle.xr_simulation.specs.Turns.{is_watching}
+use Rattle.xr_simulation.specs.NextStep.{is_watching}
 use Rattle.xr_simulation.specs.Wired.{AreSidesOn, AreWired, HasAlone, IsLine, IsTransferring}
 use Rattle.xr_simulation.proofs.Channels.Advances.{advances, watched_next, who_next}
 use Rattle.xr_simulation.proofs.Channels.EndSteps as step
@@ -34,7 +34,7 @@ use Rattle.xr_simulation.proofs.Relation.Lasting.{Follows, told_by}
 use Rattle.xr_simulation.proofs.RelyGuarantee.Events.{events_on}
 use Rattle.xr_simulation.proofs.Channels.WiredMoves.{Moves}
 use Rattle.xr_simulation.proofs.Channels.Wiring.{wired_inside}
-use Rattle.xr_channels.specs.Phases.{Phase, between, spot}
+use Rattle.xr_channels.specs.Phases.{Phase, between, side_state}
 
 -- the machine behind a thread's step, which leaves this core, writes this down and sends that over links
 abbrev pub behind_step : Machine → (core : ℕ) → CoreState → Option Record → List Sent → Machine
@@ -42,7 +42,7 @@ behind_step m c left made sent = record { cores = slice_set m.cores c left; link
 
 -- What a thread's next slot is, and how the program follows it: the thread pauses; or the slot is a step, and behind a piece of the
 -- program's run the two sides stand so again.
-pub data IsFollowed (g : Setting) (who : Roles) (w : Watched) (x : Told (of_kernel g.program)) (c t : ℕ) (r : Runner) (a : CoreState) (did : Did CoreState) : Type 0 where
+pub data IsFollowed (g : Setting) (who : Roles) (w : Watched) (x : Counted (of_kernel g.program)) (c t : ℕ) (r : Runner) (a : CoreState) (did : Did CoreState) : Type 0 where
   pauses : did ≡ Paused → IsFollowed g who w x c t r a did
   followed : (may_rest : (core thread : ℕ) → Bool) → ((d u : ℕ) → d ≢ c → may_rest d u ≡ false) →
       (left : CoreState) (made : Option Record) (sent : List Sent) →
@@ -67,7 +67,7 @@ module _ {may_rest : (core thread : ℕ) → Bool} {moment : Moment may_rest} {h
   pub on_core : AreSidesOn g.program channel c
   on_core = (st.wired.listed c t channel side is_in).2
 
-  pub spot_is : st.wired.ghosts.spots own_line side ≡ spot phase false
+  pub spot_is : st.wired.ghosts.side_states own_line side ≡ side_state phase false
   spot_is = wired_inside g who w.machine x.state st.wired c t own_line r hand (in_phase channel side phase) runs_r its line_is
 
   was_it : (transfer : Transfer) → r.transfer ≡ Some transfer → transfer ≡ in_phase channel side phase
@@ -126,7 +126,7 @@ module _ {moment : Moment none_rests} {thread_at : ThreadAt moment None} (branch
       sym is ∙ ap (λ (i : Thread). i.event_bit) same
 
   -- it is on its way still, by fewer steps
-  own_stand : (rests : Bool) (fewer : ℕ) → suc fewer ≤ stand.left → StandsWith g s rests next branch.items fewer behind → Stand g s rests None left x.state (watched.lives c t) more branch
+  own_stand : (rests : Bool) (fewer : ℕ) → suc fewer ≤ stand.left → ProgressWith g s rests next branch.items fewer behind → RunsBranch g s rests None left x.state (watched.lives c t) more branch
   own_stand rests fewer few by = record {
     core = stand.core;
     family = stand.family;
@@ -152,7 +152,7 @@ module _ {moment : Moment none_rests} {thread_at : ThreadAt moment None} (branch
         let same : x.actions r.family + 0 ≡ x.actions r.family = omega arith in
         let life : (watched.lives c t).steps ≡ (w.lives c t).steps + 1 = ap (λ (l : Life). l.steps) (own_life w watched.machine c t) in
         subst (λ m. (watched.lives c t).steps + fewer ≤ kernel_bound g.program * (m + 1)) (sym same) (omega arith);
-    by = subst (λ m. StandsBy g s rests branch.items m fewer behind) (sym on) by;
+    by = subst (λ m. ProgressBy g s rests branch.items m fewer behind) (sym on) by;
   }
     where
       runs_ended : runs ≡ ended → ⊥
@@ -162,7 +162,7 @@ module _ {moment : Moment none_rests} {thread_at : ThreadAt moment None} (branch
       runs_erred f = cc
 
   -- so the two sides stand so again
-  pub goes_on_so : (may_rest' : (core thread : ℕ) → Bool) (fewer : ℕ) → suc fewer ≤ stand.left → StandsWith g s (may_rest' c t) next branch.items fewer behind →
+  pub goes_on_so : (may_rest' : (core thread : ℕ) → Bool) (fewer : ℕ) → suc fewer ≤ stand.left → ProgressWith g s (may_rest' c t) next branch.items fewer behind →
       AreWired g (who_next thread_at left (advance g r a pc regs regs here ends) next) watched.machine x.state →
       ((transfer : Transfer) → next ≡ Some transfer → HasAlone x.state.branches transfer.channel transfer.side r.branch) → Follows g may_rest' who w x watched
   goes_on_so may_rest' fewer few by wired alone =

@@ -17,9 +17,9 @@ use Rattle.xc_meaning.specs.States.Items.{Item, does, storing}
 use Rattle.xc_meaning.specs.States.Worlds.{World}
 use Rattle.xr_simulation.specs.Runners.{home, shrunk}
 use Rattle.xr_simulation.specs.ThreadViews.{running}
-use Rattle.xr_simulation.specs.Standing.{StandsWith, none_rests}
+use Rattle.xr_simulation.specs.MatchStates.{ProgressWith, none_rests}
 use Rattle.xr_simulation.specs.Transfers.{AwaitsNothing, StopsIn, Transfer, in_phase}
-use Rattle.xr_simulation.specs.Turns.{Communicates, Errs, InTransfer, cost, takes_in}
+use Rattle.xr_simulation.specs.NextStep.{Communicates, Errs, InTransfer, cost, takes_in}
 use Rattle.xr_simulation.specs.Wired.{boxes_in}
 use Rattle.xr_simulation.proofs.Channels.Worlds.{input_errs, received, received_boxes, takes_offer}
 use Rattle.xr_simulation.proofs.Channels.EndRows.{AtEnd, Goal, acts_row, answered_there, boxes_answered, near_end, stays_in, word_row}
@@ -35,7 +35,7 @@ use Rattle.xr_simulation.proofs.RelyGuarantee.Footprints.{transfer_shrinks}
 use Rattle.xr_simulation.proofs.Channels.TransferErrs.{errs_followed}
 use Rattle.xr_simulation.proofs.RelyGuarantee.Phases.{inside_as}
 use Rattle.xr_simulation.proofs.RelyGuarantee.Events.{nothing_unwatched}
-use Rattle.xr_channels.specs.Phases.{between, checks_end, spot}
+use Rattle.xr_channels.specs.Phases.{between, checks_end, side_state}
 use Rattle.xr_channels.proofs.All.Frames.{boxed, length_box, parcels}
 use Rattle.xr_channels.proofs.All.Near as near
 use Rattle.xr_channels.proofs.All.Near.{Next}
@@ -131,7 +131,7 @@ module _ {moment : Moment none_rests} {thread_at : ThreadAt moment None} (branch
         has = has_behind does_input es;
       }
 
-      stands_inside : StandsWith g (own.s does_input) false (Some transfer) items (2 + j + cost g r) (behind does_input es)
+      stands_inside : ProgressWith g (own.s does_input) false (Some transfer) items (2 + j + cost g r) (behind does_input es)
       stands_inside = (
         j,
         omega arith,
@@ -141,7 +141,7 @@ module _ {moment : Moment none_rests} {thread_at : ThreadAt moment None} (branch
 
     made_so : (es : List ChanEnd) → slot (home g r) a r.thread ≡ Made (left does_input es) (Some (Com r.core v)) [] →
         Next (near_end branch_at at_end) r.thread (running r.tie h.pc h.regs) (left does_input es) (answered_there branch_at at_end ps)
-        (spot checks_end false) → Goal branch_at at_end
+        (side_state checks_end false) → Goal branch_at at_end
     made_so =
         acts_row branch_at at_end does_input checks_end (stays_in refl) none_rests (λ d u ne. refl) j (2 + j + cost g r) few (omega arith)
         (answered_there branch_at at_end ps) (ap (boxes_in g.program) world_boxes ∙ boxes_answered branch_at at_end ps) as_many

@@ -4,7 +4,7 @@ use Rattle.std.specs.Prelude.{Bool}
 use Rattle.xl_par.specs.Acquired.{Acquired}
 use Rattle.xr_match.specs.Lives.{Watched}
 use Rattle.xr_match.specs.Meanings.{of_kernel}
-use Rattle.xr_match.specs.Sources.{Told}
+use Rattle.xr_match.specs.Sources.{Counted}
 use Rattle.xr_simulation.specs.Roles.{Roles, used_by}
 use Rattle.xr_simulation.specs.Runners.{Runner, Setting}
 use Rattle.xr_simulation.proofs.Relation.CoreSteps.{same_runner}
@@ -16,7 +16,7 @@ abbrev pub NoneInside : Roles → Type 0
 NoneInside who = (core thread : ℕ) (r : Runner) (hand : Option Acquired) → who core thread ≡ used_by r hand → r.transfer ≡ None
 
 -- a piece of the run leads to where the two stand so, and none is inside a transfer if none was
-pub record Settles (g : Setting) (may_rest : (core thread : ℕ) → Bool) (old : Roles) (before : Watched) (x : Told (of_kernel g.program)) (w : Watched) : Type 0 where
+pub record Settles (g : Setting) (may_rest : (core thread : ℕ) → Bool) (old : Roles) (before : Watched) (x : Counted (of_kernel g.program)) (w : Watched) : Type 0 where
   pub follows : Follows g may_rest old before x w
   pub none_inside : NoneInside old → NoneInside follows.who
 

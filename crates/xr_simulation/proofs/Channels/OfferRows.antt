@@ -9,9 +9,9 @@ use Rattle.xc_meaning.specs.States.Channels.{offer}
 use Rattle.xc_meaning.specs.States.Items.{Item, awaits}
 use Rattle.xr_simulation.specs.Runners.{shrunk}
 use Rattle.xr_simulation.specs.ThreadViews.{running}
-use Rattle.xr_simulation.specs.Standing.{StandsWith, none_rests}
+use Rattle.xr_simulation.specs.MatchStates.{ProgressWith, none_rests}
 use Rattle.xr_simulation.specs.Transfers.{Transfer, in_phase}
-use Rattle.xr_simulation.specs.Turns.{Communicates, InTransfer, IsBehind, cost, puts_out}
+use Rattle.xr_simulation.specs.NextStep.{Communicates, InTransfer, IsBehind, cost, puts_out}
 use Rattle.xr_simulation.proofs.Channels.Worlds.{offered, offers_word}
 use Rattle.xr_simulation.proofs.Channels.EndRows.{AtEnd, Goal, acts_row, boxes_put, near_end, put_there, sends_row, stays_in}
 use Rattle.xr_simulation.proofs.Channels.EndSteps.{gone_on}
@@ -87,7 +87,7 @@ module _ {moment : Moment none_rests} {thread_at : ThreadAt moment None} (branch
       has = has_behind does_offer es;
     }
 
-    stands_inside : StandsWith g (own.s does_offer) false (Some transfer) items (2 + j + cost g r) (behind does_offer es)
+    stands_inside : ProgressWith g (own.s does_offer) false (Some transfer) items (2 + j + cost g r) (behind does_offer es)
     stands_inside = (
       j,
       omega arith,

@@ -19,9 +19,9 @@ use Rattle.xr_match.specs.Lives.{Life, Watched}
 use Rattle.xr_simulation.specs.Roles.{empty, used_by}
 use Rattle.xr_simulation.specs.Runners.{Runner, footprint_of}
 use Rattle.xr_simulation.specs.ThreadViews.{ThreadView, running}
-use Rattle.xr_simulation.specs.Standing.{Stand, StandsBy, StandsWith, ThreadIs, none_rests}
+use Rattle.xr_simulation.specs.MatchStates.{RunsBranch, ProgressBy, ProgressWith, ThreadIs, none_rests}
 use Rattle.xr_simulation.specs.Transfers.{Transfer}
-use Rattle.xr_simulation.specs.Turns.{Has, IsNext, cost, is_watching, own_go}
+use Rattle.xr_simulation.specs.NextStep.{Has, IsNext, cost, is_watching, own_go}
 use Rattle.xr_simulation.specs.Wired.{AreWired, HasAlone}
 use Rattle.xr_simulation.proofs.Channels.OwnSide.{alone_behind}
 use Rattle.xr_simulation.proofs.OwnSteps.Answers as answers
@@ -153,8 +153,8 @@ module _ {moment : Moment none_rests} {thread_at : ThreadAt moment None} {branch
       subst (λ k. k + further ≤ kernel_bound g.program * (more r.family + 1)) (sym life) all
 
   own_stand : (rests : Bool) (j further : ℕ) → j ≤ stand.left → further ≤ j + 2 + cost g r →
-      StandsWith g (s does) rests transfer items further behind →
-      Stand g (s does) rests None left world (watched.lives c t) more (record branch { items = items })
+      ProgressWith g (s does) rests transfer items further behind →
+      RunsBranch g (s does) rests None left world (watched.lives c t) more (record branch { items = items })
   own_stand rests j further few enough by = record {
     core = stand.core;
     family = stand.family;
@@ -175,7 +175,7 @@ module _ {moment : Moment none_rests} {thread_at : ThreadAt moment None} {branch
     ends_tied = λ over. absurd (runs_ended (sym on ∙ over));
     left = further;
     bound = bound_behind j further few enough;
-    by = subst (λ m. StandsBy g (s does) rests items m further behind) (sym on) by;
+    by = subst (λ m. ProgressBy g (s does) rests items m further behind) (sym on) by;
   }
     where
       runs_ended : runs ≡ ended → ⊥
@@ -186,7 +186,7 @@ module _ {moment : Moment none_rests} {thread_at : ThreadAt moment None} {branch
 
   -- so the two sides stand so again
   pub does_so : (rests : (core thread : ℕ) → Bool) (j further : ℕ) → j ≤ stand.left → further ≤ j + 2 + cost g r →
-      StandsWith g (s does) (rests c t) transfer items further behind →
+      ProgressWith g (s does) (rests c t) transfer items further behind →
       AreWired g (with_role who c t (used_by (s does) None)) watched.machine world →
       ((which : Transfer) → transfer ≡ Some which → HasAlone world.branches which.channel which.side r.branch) → Follows g rests who w x watched
   does_so rests j further few enough by wired alone =

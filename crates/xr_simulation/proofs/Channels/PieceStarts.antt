@@ -10,8 +10,8 @@ use Rattle.xc_meaning.specs.States.Items.{Item, does}
 use Rattle.xc_meaning.specs.Uses.{by_items}
 use Rattle.xr_simulation.specs.Fits.{ItemsFit, PutsOutAt, TakesInAt}
 use Rattle.xr_simulation.specs.Runners.{IsChannel, Runner, Setting}
-use Rattle.xr_simulation.specs.Standing.{none_rests}
-use Rattle.xr_simulation.specs.Turns.{Communicates, Has, Piece, Runs, puts_out, resource_of, statement_of, takes_in}
+use Rattle.xr_simulation.specs.MatchStates.{none_rests}
+use Rattle.xr_simulation.specs.NextStep.{Communicates, Has, Piece, Runs, puts_out, resource_of, statement_of, takes_in}
 use Rattle.xr_simulation.proofs.Channels.EndRows.{AtEnd, begins_there}
 use Rattle.xr_simulation.proofs.Relation.Moments.{BranchAt, Moment, ThreadAt}
 use Rattle.xr_channels.specs.Phases.{between}

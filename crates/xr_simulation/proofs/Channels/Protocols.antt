@@ -24,7 +24,7 @@ use Rattle.xl_statements.specs.Pieces.{Exit}
 use Rattle.xr_simulation.specs.Runners.{Setting, Runner, end_place, home}
 use Rattle.xr_simulation.specs.ThreadViews.{running}
 use Rattle.xr_simulation.specs.Transfers.{AwaitsNothing, acts_left}
-use Rattle.xr_simulation.specs.Turns.{HasBases, IsBehind, ItemsFrom, TakesSteps}
+use Rattle.xr_simulation.specs.NextStep.{HasBases, IsBehind, ItemsFrom, TakesSteps}
 use Rattle.xr_channels.specs.Phases.{awaits_ack, checks_end, offers, sends_ack, sends_end}
 use Rattle.xr_simulation.proofs.RelyGuarantee.Events.{items_unwatched}
 use Rattle.xr_simulation.proofs.RelyGuarantee.Stands.{items_stand}

@@ -17,7 +17,7 @@ use Rattle.xr_simulation.proofs.Relation.Moments.{Moment, ThreadAt}
 use Rattle.xr_simulation.proofs.Relation.CoreSteps.{same_runner, works_at}
 use Rattle.xr_simulation.proofs.Channels.WiredMoves.{Moves}
 use Rattle.xr_simulation.proofs.Channels.Wiring.{wired_between}
-use Rattle.xr_channels.specs.Phases.{Phase, between, spot}
+use Rattle.xr_channels.specs.Phases.{Phase, between, side_state}
 
 -- no side is the other one
 not_other : (side : Side) → ◌≡◌ {A = Option Side} (Some side) (Some (other_side side)) → ⊥
@@ -63,7 +63,7 @@ module _ {may_rest : (core thread : ℕ) → Bool} {moment : Moment may_rest} {h
       (cases_eq i.runner.branch r.branch)
 
   -- so the side stands in no piece
-  pub spot_there : st.wired.ghosts.spots line side ≡ spot between false
+  pub spot_there : st.wired.ghosts.side_states line side ≡ side_state between false
   spot_there = wired_between g who w.machine x.state st.wired line d side line_there nobody
 
   -- the branch has it for itself

@@ -5,9 +5,9 @@ use Rattle.xs_instr.specs.declared.trace.Record.TheVariants.{Fault}
 use Rattle.xs_instr.specs.Machine.{stepped}
 use Rattle.xs_instr.specs.Slot.{slot, trapped}
 use Rattle.xr_simulation.specs.Runners.{home}
-use Rattle.xr_simulation.specs.Standing.{none_rests}
+use Rattle.xr_simulation.specs.MatchStates.{none_rests}
 use Rattle.xr_simulation.specs.Transfers.{StopsIn}
-use Rattle.xr_simulation.specs.Turns.{Errs}
+use Rattle.xr_simulation.specs.NextStep.{Errs}
 use Rattle.xr_simulation.proofs.Channels.InTransfers.{IsFollowed, followed}
 use Rattle.xr_simulation.proofs.Relation.Moments.{BranchAt, Moment, ThreadAt}
 use Rattle.xr_simulation.proofs.OwnSteps.AnsweredTurns.{errs_answered}

@@ -9,9 +9,9 @@ use Rattle.xc_meaning.specs.States.Branches.{runs}
 use Rattle.xc_meaning.specs.States.Channels.{Side}
 use Rattle.xr_simulation.specs.Runners.{Runner}
 use Rattle.xr_simulation.specs.ThreadViews.{ThreadView, running}
-use Rattle.xr_simulation.specs.Standing.{IfTrue, IsAtRest, StandsWith, none_rests}
+use Rattle.xr_simulation.specs.MatchStates.{IfTrue, IsAtRest, ProgressWith, none_rests}
 use Rattle.xr_simulation.specs.Transfers.{GoesWith, acts_left, all_but_first, items_behind, steps_left, in_phase}
-use Rattle.xr_simulation.specs.Turns.{Has, InTransfer, IsBehind, TakesSteps, cost}
+use Rattle.xr_simulation.specs.NextStep.{Has, InTransfer, IsBehind, TakesSteps, cost}
 use Rattle.xr_simulation.proofs.OwnSteps.Answers as answers
 use Rattle.xr_simulation.proofs.Channels.EndRows.{AtEnd, Goal, boxes, ends_row, goes_out, goes_row, inside_there, near_end, sends_row, stays_in}
 use Rattle.xr_simulation.proofs.Channels.EndSteps as step
@@ -53,7 +53,7 @@ module _ {moment : Moment none_rests} {thread_at : ThreadAt moment None} (branch
   later_steps : (phase later : Phase) (j fewer : ℕ) → steps_left later + j + cost g r ≤ fewer → (h : InTransfer g r (in_phase channel side phase) branch.items j now) → GoesWith later channel h.pos branch.items →
       TakesSteps g r channel side h.pos (acts_left later) (IsBehind g r (items_behind later branch.items) j) (h.pc + 1) h.regs →
       (es : List ChanEnd) →
-      StandsWith g (record r { transfer = Some (in_phase channel side later) }) false (Some (in_phase channel side later)) branch.items fewer (record { core = step.left g r a h.pc h.regs h.regs h.here es; world = x.state; hand = None })
+      ProgressWith g (record r { transfer = Some (in_phase channel side later) }) false (Some (in_phase channel side later)) branch.items fewer (record { core = step.left g r a h.pc h.regs h.regs h.here es; world = x.state; hand = None })
   later_steps phase later j fewer few h goes steps es =
       let next = Some (in_phase channel side later) in (
         j,
@@ -115,7 +115,7 @@ module _ {moment : Moment none_rests} {thread_at : ThreadAt moment None} (branch
     out_behind : IsBehind g r branch.items j (h.pc + 1) h.regs
     out_behind = ack_sent g r channel side h.pos (IsBehind g r branch.items j) h.pc h.regs h.steps
 
-    left_it : StandsWith g out (rests_alone c t c t) None branch.items (j + cost g r) then
+    left_it : ProgressWith g out (rests_alone c t c t) None branch.items (j + cost g r) then
     left_it =
         inr (inr (subst (λ b. IfTrue g out b (IsAtRest g out branch.items (j + cost g r) then)) (sym (rests_there c t)) (
           j,

@@ -14,13 +14,13 @@ use Rattle.xr_simulation.specs.Images.{AreLines}
 use Rattle.xr_simulation.specs.Roles.{Roles, used_by}
 use Rattle.xr_simulation.specs.Runners.{Setting, Runner}
 use Rattle.xr_simulation.specs.Transfers.{Transfer, in_phase}
-use Rattle.xr_simulation.specs.Wired.{AreSidesOn, AreWired, IsLine, IsTransferring, Stance, at_rest, boxes_in, in_piece}
+use Rattle.xr_simulation.specs.Wired.{AreSidesOn, AreWired, IsLine, IsTransferring, SideIs, idle, boxes_in, in_transfer}
 use Rattle.xr_simulation.proofs.Relation.CoreSteps.{same_runner}
 use Rattle.xr_simulation.proofs.Relation.Seats.{role_cases, role_here, with_role}
 use Rattle.xr_simulation.proofs.Relation.Lasting.{get_set_cases}
 use Rattle.xr_channels.specs.Balance.{Local}
-use Rattle.xr_channels.specs.Phases.{Phase, Spot, between, spot}
-use Rattle.xr_channels.specs.Wires.{Ghosts}
+use Rattle.xr_channels.specs.Phases.{Phase, SideState, between, side_state}
+use Rattle.xr_channels.specs.Channels.{Ghosts}
 use Rattle.xr_channels.proofs.All.Frames.{twice}
 use Rattle.xr_channels.proofs.Sides.Updates.{moved_to, pick, same_side}
 
@@ -32,9 +32,9 @@ side_cases second first = inr (λ e. let no : true ≡ false = ap (same_side sec
 side_cases second second = inl refl
 
 -- where a side that moves stands
-moved_here : (g : Ghosts) (k : ℕ) (side : Side) (s : Spot) → (moved_to g k side s []).spots k side ≡ s
-moved_here g k first s = ap (λ b. pick (b && true) s (g.spots k first)) (eq-eqb k k refl)
-moved_here g k second s = ap (λ b. pick (b && true) s (g.spots k second)) (eq-eqb k k refl)
+moved_here : (g : Ghosts) (k : ℕ) (side : Side) (s : SideState) → (moved_to g k side s []).side_states k side ≡ s
+moved_here g k first s = ap (λ b. pick (b && true) s (g.side_states k first)) (eq-eqb k k refl)
+moved_here g k second s = ap (λ b. pick (b && true) s (g.side_states k second)) (eq-eqb k k refl)
 
 -- and where another one does
 other_sides : (x y : Side) → x ≢ y → same_side x y ≡ false
@@ -47,20 +47,20 @@ not_both : (a : Bool) → (a && false) ≡ false
 not_both true = refl
 not_both false = refl
 
-moved_elsewhere : (g : Ghosts) (k : ℕ) (side : Side) (s : Spot) (j : ℕ) (x : Side) → ((j ≡ k) × (x ≡ side) → ⊥) → (moved_to g k side s []).spots j x ≡ g.spots j x
+moved_elsewhere : (g : Ghosts) (k : ℕ) (side : Side) (s : SideState) (j : ℕ) (x : Side) → ((j ≡ k) × (x ≡ side) → ⊥) → (moved_to g k side s []).side_states j x ≡ g.side_states j x
 moved_elsewhere g k side s j x ne =
     ⊎_elim
-    (λ (same : j ≡ k). ap (λ b. pick b s (g.spots j x)) (ap (λ b. nat_eq j k && b) (other_sides x side (λ e. ne (same, e))) ∙ not_both (nat_eq j k)))
-    (λ (other : j ≢ k). ap (λ b. pick (b && same_side x side) s (g.spots j x)) (ne_eqb j k other))
+    (λ (same : j ≡ k). ap (λ b. pick b s (g.side_states j x)) (ap (λ b. nat_eq j k && b) (other_sides x side (λ e. ne (same, e))) ∙ not_both (nat_eq j k)))
+    (λ (other : j ≢ k). ap (λ b. pick (b && same_side x side) s (g.side_states j x)) (ne_eqb j k other))
     (cases_eq j k)
 
 -- What is late to the other side, likewise.
 
-late_here : (g : Ghosts) (k : ℕ) (side : Side) (s : Spot) → (moved_to g k side s []).late k (other_side side) ≡ []
+late_here : (g : Ghosts) (k : ℕ) (side : Side) (s : SideState) → (moved_to g k side s []).late k (other_side side) ≡ []
 late_here g k first s = ap (λ b. pick (b && true) [] (g.late k second)) (eq-eqb k k refl)
 late_here g k second s = ap (λ b. pick (b && true) [] (g.late k first)) (eq-eqb k k refl)
 
-late_elsewhere : (g : Ghosts) (k : ℕ) (side : Side) (s : Spot) (j : ℕ) (x : Side) → ((j ≡ k) × (x ≡ side) → ⊥) →
+late_elsewhere : (g : Ghosts) (k : ℕ) (side : Side) (s : SideState) (j : ℕ) (x : Side) → ((j ≡ k) × (x ≡ side) → ⊥) →
     (moved_to g k side s []).late j (other_side x) ≡ g.late j (other_side x)
 late_elsewhere g k side s j x ne =
     ⊎_elim
@@ -92,7 +92,7 @@ module _ (g : Setting) (lines : AreLines g) (who : Roles) (m : Machine) (world :
   who' = with_role who c t (used_by s hand')
 
   abbrev next : Ghosts
-  next = moved_to h.ghosts line side (spot phase false) []
+  next = moved_to h.ghosts line side (side_state phase false) []
 
   abbrev Here : (d u : ℕ) → Type 0
   Here d u = (d ≡ c) × (u ≡ t)
@@ -152,19 +152,19 @@ module _ (g : Setting) (lines : AreLines g) (who : Roles) (m : Machine) (world :
       (is_now d u k x i)
 
   -- where the sides stand
-  elsewhere : (l : ℕ) (x : Side) → ((l ≡ line) × (x ≡ side) → ⊥) → next.spots l x ≡ h.ghosts.spots l x
-  elsewhere l x ne = moved_elsewhere h.ghosts line side (spot phase false) l x ne
+  elsewhere : (l : ℕ) (x : Side) → ((l ≡ line) × (x ≡ side) → ⊥) → next.side_states l x ≡ h.ghosts.side_states l x
+  elsewhere l x ne = moved_elsewhere h.ghosts line side (side_state phase false) l x ne
 
-  here_is : (l : ℕ) (x : Side) → l ≡ line → x ≡ side → next.spots l x ≡ spot phase false
-  here_is l x e f = ap (λ k. next.spots k x) e ∙ ap (next.spots line) f ∙ moved_here h.ghosts line side (spot phase false)
+  here_is : (l : ℕ) (x : Side) → l ≡ line → x ≡ side → next.side_states l x ≡ side_state phase false
+  here_is l x e f = ap (λ k. next.side_states k x) e ∙ ap (next.side_states line) f ∙ moved_here h.ghosts line side (side_state phase false)
 
   late_is : (l : ℕ) (x : Side) → l ≡ line → x ≡ side → next.late l (other_side x) ≡ []
   late_is l x e f = ap (λ k. next.late k (other_side x)) e ∙ ap (λ y. next.late line (other_side y)) f ∙ late_here h.ghosts line side
-      (spot phase false)
+      (side_state phase false)
 
   -- a side of a line then
   abbrev Stands : (l k : ℕ) → Side → Type 0
-  Stands l k x = Stance g who' k x (next.spots l x) (next.late l (other_side x))
+  Stands l k x = SideIs g who' k x (next.side_states l x) (next.late l (other_side x))
 
   -- each stands as its thread does, or as before
   stances : (l k : ℕ) (x : Side) → IsLine g.program l k → Stands l k x
@@ -181,14 +181,14 @@ module _ (g : Setting) (lines : AreLines g) (who : Roles) (m : Machine) (world :
               let own = was_here k x (subst (λ v. IsTransferring who c v k x) here.1 (subst (λ v. IsTransferring who v u k x) here.0 i)) in
               ne (on_line own.0, own.1)
 
-          from : Stance g who k x (h.ghosts.spots l x) (h.ghosts.late l (other_side x)) → Stands l k x
-          from (in_piece d u i core e late) =
-              in_piece d u (still d u k x (not_here d u i) i) core (elsewhere l x ne ∙ e)
-              (late_elsewhere h.ghosts line side (spot phase false) l x ne ∙ late)
-          from (at_rest nobody e late) =
-              at_rest (λ d u i. ⊎_elim (λ own. ne (on_line own.1, own.2)) (λ other. nobody d u other.1) (is_now d u k x i))
+          from : SideIs g who k x (h.ghosts.side_states l x) (h.ghosts.late l (other_side x)) → Stands l k x
+          from (in_transfer d u i core e late) =
+              in_transfer d u (still d u k x (not_here d u i) i) core (elsewhere l x ne ∙ e)
+              (late_elsewhere h.ghosts line side (side_state phase false) l x ne ∙ late)
+          from (idle nobody e late) =
+              idle (λ d u i. ⊎_elim (λ own. ne (on_line own.1, own.2)) (λ other. nobody d u other.1) (is_now d u k x i))
               (elsewhere l x ne ∙ e)
-              (late_elsewhere h.ghosts line side (spot phase false) l x ne ∙ late)
+              (late_elsewhere h.ghosts line side (side_state phase false) l x ne ∙ late)
 
       by : (l ≡ line) ⊎ (l ≢ line) → (x ≡ side) ⊎ (x ≢ side) → Stands l k x
       by (inl e) (inl f) = here_stands s.transfer refl
@@ -198,17 +198,17 @@ module _ (g : Setting) (lines : AreLines g) (who : Roles) (m : Machine) (world :
 
           here_stands : (o : Option Transfer) → s.transfer ≡ o → Stands l k x
           here_stands None none =
-              at_rest
+              idle
               (λ d u i.
               ⊎_elim
               (λ own. none-some (in_phase channel side phase) (sym none ∙ own.3))
               (λ other. other.0 (moves.mine d u
               (subst (λ v. IsTransferring who d u channel v) f (subst (λ v. IsTransferring who d u v x) k_is other.1))))
               (is_now d u k x i))
-              (here_is l x e f ∙ ap (λ v. spot v false) (moves.over none)) (late_is l x e f)
+              (here_is l x e f ∙ ap (λ v. side_state v false) (moves.over none)) (late_is l x e f)
           here_stands (Some transfer) is =
               let new = moves.new transfer is in
-              in_piece c t (record {
+              in_transfer c t (record {
                 runner = s;
                 hand = hand';
                 runs = role_here who c t (used_by s hand');
@@ -216,7 +216,7 @@ module _ (g : Setting) (lines : AreLines g) (who : Roles) (m : Machine) (world :
                 is = is;
                 channel_is = ap (λ (v : Transfer). v.channel) new ∙ sym k_is;
                 side_is = ap (λ (v : Transfer). v.side) new ∙ sym f;
-              }) (ap (λ v. core_of g.program v x) k_is ∙ on_core x) (here_is l x e f ∙ ap (λ (v : Transfer). spot v.phase false) (sym new))
+              }) (ap (λ v. core_of g.program v x) k_is ∙ on_core x) (here_is l x e f ∙ ap (λ (v : Transfer). side_state v.phase false) (sym new))
               (late_is l x e f ∙ ap (λ (v : Transfer). v.late) (sym new))
       by (inl e) (inr ne) = away (λ both. ne both.1)
       by (inr ne) f = away (λ both. ne both.0)
@@ -248,7 +248,7 @@ module _ (g : Setting) (lines : AreLines g) (who : Roles) (m : Machine) (world :
 
     pub wired_moves : length left.ends ≡ length a.ends → length world'.inboxes ≡ length world.inboxes →
         Local g.image.chans (slice_set m.cores c left) (boxes_in g.program world'.inboxes)
-        (moved_to h.ghosts line side (spot phase false) []) → AreWired g (with_role who c t (used_by s hand')) m' world'
+        (moved_to h.ghosts line side (side_state phase false) []) → AreWired g (with_role who c t (used_by s hand')) m' world'
     wired_moves size long local = record {
       ghosts = next;
       local = subst (λ l. Local g.image.chans l (boxes_in g.program world'.inboxes) next) (sym is) local;

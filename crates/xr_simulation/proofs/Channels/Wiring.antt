@@ -11,13 +11,13 @@ use Rattle.xc_meaning.specs.States.Channels.{Inboxes, Parcel, Side, first, secon
 use Rattle.xc_meaning.specs.States.Worlds.{World}
 use Rattle.xl_par.specs.Acquired.{Acquired}
 use Rattle.xr_channels.specs.Balance.{Balanced, IsEight, Local, credits_in}
-use Rattle.xr_channels.specs.Fresh.{Stands}
-use Rattle.xr_channels.specs.Phases.{Spot, between, spot}
-use Rattle.xr_channels.specs.Wires.{Ghosts, TalkAt, Wires, ends_in, line, place, tokens_at, tokens_in}
+use Rattle.xr_channels.specs.ChannelRel.{ChannelRel}
+use Rattle.xr_channels.specs.Phases.{SideState, between, side_state}
+use Rattle.xr_channels.specs.Channels.{Ghosts, ChannelRelAt, Channels, ends_in, direction_to, end_of_side, tokens_at, tokens_in}
 use Rattle.xr_simulation.specs.Roles.{Roles, used_by}
 use Rattle.xr_simulation.specs.Runners.{Setting, Runner}
 use Rattle.xr_simulation.specs.Transfers.{Transfer}
-use Rattle.xr_simulation.specs.Wired.{AreWired, IsLine, IsTransferring, Stance, at_rest, boxes_in, in_piece}
+use Rattle.xr_simulation.specs.Wired.{AreWired, IsLine, IsTransferring, SideIs, idle, boxes_in, in_transfer}
 use Rattle.xr_simulation.proofs.Relation.CoreSteps.{same_runner}
 use Rattle.xr_simulation.proofs.Relation.Lasting.{get_set_cases}
 use Rattle.xl_expr.proofs.Lists.{get_set_other, get_set_same}
@@ -34,14 +34,14 @@ module _ (cores cores' : List CoreState) (ends_same : (x : ℕ) → ends_in (sli
   tokens_same : (x e : ℕ) → tokens_at cores' x e ≡ tokens_at cores x e
   tokens_same x e = ap (λ l. tokens_in (slice_get l e)) (ends_same x)
 
-  talks_still : (boxes : List Inboxes) (g : Ghosts) (p : Pair) (k : ℕ) → TalkAt cores no_links boxes g p k first → TalkAt cores' no_links boxes g p k first
+  talks_still : (boxes : List Inboxes) (g : Ghosts) (p : Pair) (k : ℕ) → ChannelRelAt cores no_links boxes g p k first → ChannelRelAt cores' no_links boxes g p k first
   talks_still boxes g p k h =
-      let from : (side : Side) → line cores no_links boxes g p k side ≡ line cores' no_links boxes g p k side =
-      λ side. ap (λ ks. record (line cores no_links boxes g p k side) { buffer = ks }) (sym (tokens_same (place p side).core (place p side).end)) in
-      subst (λ l. Stands (g.spots k first) (g.spots k second) (line cores' no_links boxes g p k second) l) (from first)
-      (subst (λ l. Stands (g.spots k first) (g.spots k second) l (line cores no_links boxes g p k first)) (from second) h)
+      let from : (side : Side) → direction_to cores no_links boxes g p k side ≡ direction_to cores' no_links boxes g p k side =
+      λ side. ap (λ ks. record (direction_to cores no_links boxes g p k side) { buffer = ks }) (sym (tokens_same (end_of_side p side).core (end_of_side p side).end)) in
+      subst (λ l. ChannelRel (g.side_states k first) (g.side_states k second) (direction_to cores' no_links boxes g p k second) l) (from first)
+      (subst (λ l. ChannelRel (g.side_states k first) (g.side_states k second) l (direction_to cores no_links boxes g p k first)) (from second) h)
 
-  wires_still : (pairs : List Pair) (boxes : List Inboxes) (g : Ghosts) → Wires pairs cores no_links boxes g → Wires pairs cores' no_links boxes g
+  wires_still : (pairs : List Pair) (boxes : List Inboxes) (g : Ghosts) → Channels pairs cores no_links boxes g → Channels pairs cores' no_links boxes g
   wires_still pairs boxes g h = record {
     talks = λ k p at. talks_still boxes g p k (h.talks k p at);
     boxes = h.boxes;
@@ -57,8 +57,8 @@ module _ (cores cores' : List CoreState) (ends_same : (x : ℕ) → ends_in (sli
 
   balanced_still : (pairs : List Pair) → Balanced pairs cores → Balanced pairs cores'
   balanced_still pairs h = record {
-    ends = λ k p side at. let old = h.ends k p side at in let size = ap length (ends_same (place p side).core) in omega (arith, old, size);
-    eight = λ k p side at. eight_still (place p side) (place p (other_side side)) (h.eight k p side at);
+    ends = λ k p side at. let old = h.ends k p side at in let size = ap length (ends_same (end_of_side p side).core) in omega (arith, old, size);
+    eight = λ k p side at. eight_still (end_of_side p side) (end_of_side p (other_side side)) (h.eight k p side at);
   }
 
   pub local_still : (pairs : List Pair) (boxes : List Inboxes) (g : Ghosts) → Local pairs cores boxes g → Local pairs cores' boxes g
@@ -76,9 +76,9 @@ module _ (g : Setting) (who who' : Roles) (as_before : TransfersAsBefore who who
       let k = as_before.still d u h.runner h.hand h.transfer h.runs h.is in
       record { runner = k.0; hand = k.1; runs = k.2; transfer = h.transfer; is = k.3; channel_is = h.channel_is; side_is = h.side_is }
 
-  pub stance_as : (c : ℕ) (side : Side) (at : Spot) (late : List Parcel) → Stance g who c side at late → Stance g who' c side at late
-  stance_as c side at late (in_piece d u i core e l) = in_piece d u (is_in d u c side i) core e l
-  stance_as c side at late (at_rest nobody e l) = at_rest (λ d u i. nobody d u (was_in d u c side i)) e l
+  pub stance_as : (c : ℕ) (side : Side) (at : SideState) (late : List Parcel) → SideIs g who c side at late → SideIs g who' c side at late
+  stance_as c side at late (in_transfer d u i core e l) = in_transfer d u (is_in d u c side i) core e l
+  stance_as c side at late (idle nobody e l) = idle (λ d u i. nobody d u (was_in d u c side i)) e l
 
   -- the machine stands still
   pub wired_as : (m : Machine) (x y : World) → y.inboxes ≡ x.inboxes → AreWired g who m x → AreWired g who' m y
@@ -88,7 +88,7 @@ module _ (g : Setting) (who who' : Roles) (as_before : TransfersAsBefore who who
     long = ap length same ∙ h.long;
     ends = h.ends;
     listed = λ d u c side is. h.listed d u c side (was_in d u c side is);
-    stances = λ k c side on. stance_as c side (h.ghosts.spots k side) (h.ghosts.late k (other_side side)) (h.stances k c side on);
+    stances = λ k c side on. stance_as c side (h.ghosts.side_states k side) (h.ghosts.late k (other_side side)) (h.stances k c side on);
     one = λ d u d' u' c side is also. h.one d u d' u' c side (was_in d u c side is) (was_in d' u' c side also);
   }
 
@@ -125,26 +125,26 @@ wired_still g who who' m m' c a b x y as_before was step left same h =
 module _ (g : Setting) (who : Roles) (m : Machine) (x : World) (h : AreWired g who m x) where
   pub wired_inside : (core thread at : ℕ) (r : Runner) (hand : Option Acquired) (transfer : Transfer) → who core thread ≡ used_by r hand →
       r.transfer ≡ Some transfer → IsLine g.program at transfer.channel →
-      h.ghosts.spots at transfer.side ≡ spot transfer.phase false
+      h.ghosts.side_states at transfer.side ≡ side_state transfer.phase false
   wired_inside core thread at r hand transfer runs is on = by (h.stances at transfer.channel transfer.side on)
     where
       its : IsTransferring who core thread transfer.channel transfer.side
       its = record { runner = r; hand = hand; runs = runs; transfer = transfer; is = is; channel_is = refl; side_is = refl }
 
-      by : Stance g who transfer.channel transfer.side (h.ghosts.spots at transfer.side) (h.ghosts.late at (other_side transfer.side)) →
-          h.ghosts.spots at transfer.side ≡ spot transfer.phase false
-      by (in_piece d u i on_core e late) =
+      by : SideIs g who transfer.channel transfer.side (h.ghosts.side_states at transfer.side) (h.ghosts.late at (other_side transfer.side)) →
+          h.ghosts.side_states at transfer.side ≡ side_state transfer.phase false
+      by (in_transfer d u i on_core e late) =
           let one = h.one core thread d u transfer.channel transfer.side its i in
           let runner : r ≡ i.runner = same_runner r i.runner hand i.hand
           (sym runs ∙ sym (ap (λ k. who k u) one.0 ∙ ap (who core) one.1) ∙ i.runs) in
           let same : transfer ≡ i.transfer = same_Some transfer i.transfer (sym is ∙ ap (λ (k : Runner). k.transfer) runner ∙ i.is) in
-          e ∙ ap (λ (k : Transfer). spot k.phase false) (sym same)
-      by (at_rest nobody e late) = absurd (nobody core thread its)
+          e ∙ ap (λ (k : Transfer). side_state k.phase false) (sym same)
+      by (idle nobody e late) = absurd (nobody core thread its)
 
   pub wired_between : (at c : ℕ) (side : Side) → IsLine g.program at c → ((core thread : ℕ) → IsTransferring who core thread c side → ⊥) →
-      h.ghosts.spots at side ≡ spot between false
+      h.ghosts.side_states at side ≡ side_state between false
   wired_between at c side on nobody = by (h.stances at c side on)
     where
-      by : Stance g who c side (h.ghosts.spots at side) (h.ghosts.late at (other_side side)) → h.ghosts.spots at side ≡ spot between false
-      by (in_piece d u i on_core e late) = absurd (nobody d u i)
-      by (at_rest none e late) = e
+      by : SideIs g who c side (h.ghosts.side_states at side) (h.ghosts.late at (other_side side)) → h.ghosts.side_states at side ≡ side_state between false
+      by (in_transfer d u i on_core e late) = absurd (nobody d u i)
+      by (idle none e late) = e

@@ -15,7 +15,7 @@ use Rattle.xc_meaning.specs.States.Branches.{Branch, side_of}
 use Rattle.xc_meaning.specs.States.Channels.{Parcel, Side, offer, other_side, taken}
 use Rattle.xc_meaning.specs.States.Items.{Item, awaits, does, storing}
 use Rattle.xc_meaning.specs.States.Worlds.{World, go, put, without_parcel}
-use Rattle.xr_simulation.specs.Turns.{Runs}
+use Rattle.xr_simulation.specs.NextStep.{Runs}
 use Rattle.xr_simulation.proofs.ItemCode.Evaluations.{item_acts}
 use Rattle.xr_channels.proofs.All.Frames.{boxed, parcels}
 use Rattle.xr_channels.proofs.Sides.Found.{is_offer, is_taken}

@@ -7,7 +7,7 @@ use Rattle.xs_instr.specs.Registers.{reg_get}
 use Rattle.xl_expr.specs.Stores.{is_working}
 use Rattle.xl_expr.specs.Works.{is_scratch}
 use Rattle.xr_simulation.specs.Runners.{Setting, Runner}
-use Rattle.xr_simulation.specs.Turns.{HasBases, name_register}
+use Rattle.xr_simulation.specs.NextStep.{HasBases, name_register}
 
 -- no name stands in a working register
 pub not_working : (k : ℕ) → is_working (name_register k) ≡ false

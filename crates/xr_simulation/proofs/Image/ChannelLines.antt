@@ -23,7 +23,7 @@ use Rattle.xr_simulation.specs.Images.{AreLines}
 use Rattle.xr_simulation.specs.Runners.{Setting}
 use Rattle.xr_simulation.specs.Wired.{AreSidesOn, IsLine}
 use Rattle.xr_simulation.proofs.Image.Sides.{known, sides_on}
-use Rattle.xr_channels.specs.Wires.{place}
+use Rattle.xr_channels.specs.Channels.{end_of_side}
 use Rattle.xr_channels.proofs.All.Wired.{valid_wired}
 
 -- which root uses a channel
@@ -78,7 +78,7 @@ of_channel K (c ∷ cs) zero p e = (c, refl)
 of_channel K (c ∷ cs) (suc line) p e = of_channel K cs line p e
 
 -- the ends of a pair are there
-pair_there : (ks : List CoreImage) (pairs : List Pair) (line : ℕ) (p : Pair) → AreGoodPairs ks pairs → slice_get pairs line ≡ Some p → (side : Side) → (place p side).end < (parts_in ks (place p side).core).ends
+pair_there : (ks : List CoreImage) (pairs : List Pair) (line : ℕ) (p : Pair) → AreGoodPairs ks pairs → slice_get pairs line ≡ Some p → (side : Side) → (end_of_side p side).end < (parts_in ks (end_of_side p side).core).ends
 pair_there ks [] line p h e side = absurd (none_given e)
 pair_there ks (q ∷ qs) zero p h e first = subst (λ (x : Pair). x.end < (parts_in ks x.core).ends) (some_given e) h.0
 pair_there ks (q ∷ qs) zero p h e second = subst (λ (x : Pair). x.peer_end < (parts_in ks x.peer_core).ends) (some_given e) h.1

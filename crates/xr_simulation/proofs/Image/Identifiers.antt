@@ -15,7 +15,7 @@ use Rattle.xl_ends.specs.Ends.{end_of_side}
 use Rattle.xr_simulation.specs.Runners.{Setting, Runner, IsChannel, IsLaidOut, IsPort, IsTimer, end_place, home, plan, port_place, relied, timer_place}
 use Rattle.xr_simulation.specs.Sizes.{Sizes}
 use Rattle.xr_simulation.specs.ThreadViews.{ThreadView}
-use Rattle.xr_simulation.specs.Turns.{IsSized, TimerIs}
+use Rattle.xr_simulation.specs.NextStep.{IsSized, TimerIs}
 
 -- what is at a place below the length of a list
 listed_at : {A : Type 0} (xs : List A) (n : ℕ) → n < length xs → (x : A) × (slice_get xs n ≡ Some x)

@@ -27,7 +27,7 @@ use Rattle.xl_plan.proofs.Numbered.{listed}
 use Rattle.xl_plan.proofs.PortsDiffer.{ports_apart}
 use Rattle.xl_plan.proofs.Sizes.{few_words}
 use Rattle.xr_simulation.specs.Images.{IsCoreOf}
-use Rattle.xr_simulation.specs.Runners.{Block, Setting, Runner, IsLaidOut, IsPort, anyone, is_among_words, is_word_among, outside, places, plan, plan_in, port_place, relied, IsTimer, timer_place}
+use Rattle.xr_simulation.specs.Runners.{Activation, Setting, Runner, IsLaidOut, IsPort, anyone, is_among_words, is_word_among, outside, places, plan, plan_in, port_place, relied, IsTimer, timer_place}
 use Rattle.xr_simulation.proofs.Image.Footprints.{HasAll, words_there}
 use Rattle.xr_simulation.proofs.Image.Ends.{ends_planned}
 use Rattle.xr_simulation.proofs.Image.Plans.{IsImaged}
@@ -152,7 +152,7 @@ module _ (g : Setting) (checked : IsChecked g.program) (stay : StayOnCores g.pro
 
   -- the plan that its code goes by is the core's
   planned : IsPlan g.program r.core (plan g r)
-  planned = subst (λ (b : Block). IsPlan g.program r.core (plan_in (g.plans r.core) b.plan)) (sym block) im.planned
+  planned = subst (λ (b : Activation). IsPlan g.program r.core (plan_in (g.plans r.core) b.plan)) (sym block) im.planned
 
   pub laid_out : ((v : ℕ) → r.footprint.changes v ≡ true → r.footprint.uses v ≡ true) → IsLaidOut g r
   laid_out used = record {

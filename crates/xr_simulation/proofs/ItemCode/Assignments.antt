@@ -21,8 +21,8 @@ use Rattle.xl_statements.specs.Pieces.{Exit}
 use Rattle.xr_simulation.specs.Fits.{ItemsFit, Uses, UsesAt}
 use Rattle.xr_simulation.specs.Runners.{Setting, Runner, IsLaidOut, home, plan, relied}
 use Rattle.xr_simulation.specs.ThreadViews.{ThreadView, running}
-use Rattle.xr_simulation.specs.Turns as turn
-use Rattle.xr_simulation.specs.Turns.{StatementLeads, ItemsFrom, HasBases, Has, Turn, Turns, cost}
+use Rattle.xr_simulation.specs.NextStep as turn
+use Rattle.xr_simulation.specs.NextStep.{StatementLeads, ItemsFrom, HasBases, Has, NextStep, StableNextStep, cost}
 use Rattle.xr_simulation.proofs.RelyGuarantee.ThreadViews.{leads_as, leads_more}
 use Rattle.xr_simulation.proofs.RelyGuarantee.Arrival.{Since, at_runs, any_part, since_kept, core_kept, apart_of_changes, arrives}
 use Rattle.xr_simulation.proofs.RelyGuarantee.Layouts.{has_since, room_of, runs_at, laid_at, place_laid_at}
@@ -47,7 +47,7 @@ module _ (g : Setting) (r : Runner) (laid : IsLaidOut g r) where
     set_turns : (z : ThreadView) (regs : Regs) → HasBases g r regs → z.hand ≡ None → Has g r (item ∷ rest) z → (v i : Value) →
         eval z.world.store x ≡ v → index_in z.world.store place ≡ i → (y : ThreadView) →
         SetOutcome (plan g r).vars (home g r) (relied g r) r.stack r.thread (running r.tie pc regs) z.core.words place pc' v i y.core →
-        Since g r (IsApart r.stack) any_part z y → Turns g r j y
+        Since g r (IsApart r.stack) any_part z y → StableNextStep g r j y
     set_turns z regs bases no_hand has v i is is_index y outcome since q k = by v is outcome
       where
         since' : Since g r (IsApart r.stack) any_part z q
@@ -59,7 +59,7 @@ module _ (g : Setting) (r : Runner) (laid : IsLaidOut g r) where
         has_q : Has g r (item ∷ rest) q
         has_q = has_since g r laid (item ∷ rest) z q since' (since'.room has.holds.room) has
 
-        by : (v : Value) → eval z.world.store x ≡ v → SetOutcome (plan g r).vars (home g r) (relied g r) r.stack r.thread (running r.tie pc regs) z.core.words place pc' v i y.core → Turn g r j q
+        by : (v : Value) → eval z.world.store x ≡ v → SetOutcome (plan g r).vars (home g r) (relied g r) r.stack r.thread (running r.tie pc regs) z.core.words place pc' v i y.core → NextStep g r j q
         by (word v) e writes =
             store_turns g r laid item place rest pc pc' j uses_place changes
             (or_left (by_target (change (variable_of place)) place) (by_expression (change (variable_of place)) x)
@@ -82,7 +82,7 @@ set_leads g r place x rest exits pc pc' j z regs laid piece (uses_place, uses, c
     let most = 8 * nodes x + (8 * nodes_at place - 1) in
     let behind' = subst (λ p. ItemsFrom g r rest exits p j) piece.end behind in
     let le : most ≤ cost g r = let a = nodes_are x in let b = nodes_at_are place in omega arith in
-    leads_more g r (Turns g r j) most (cost g r) z le
-    (leads_as g r (λ y. outcome y.core × Since g r (IsApart r.stack) any_part z y) (Turns g r j) most z
+    leads_more g r (StableNextStep g r j) most (cost g r) z le
+    (leads_as g r (λ y. outcome y.core × Since g r (IsApart r.stack) any_part z y) (StableNextStep g r j) most z
     (λ y h. set_turns g r laid place x rest exits pc at_end j uses_place uses changes behind' rest_fits z regs bases no_hand has v i refl refl y h.0 h.1)
     (arrives g r (IsApart r.stack) (apart_of_changes g r) outcome most z (at_runs g r z pc regs here) way))

@@ -22,8 +22,8 @@ use Rattle.xl_statements.specs.Pieces.{ByEndAt, Exit}
 use Rattle.xr_simulation.specs.Fits.{Fits, ItemsFit}
 use Rattle.xr_simulation.specs.Runners.{Setting, Runner, IsChannel, IsLaidOut, code, end_place, home, plan, relied}
 use Rattle.xr_simulation.specs.ThreadViews.{ThreadView, Rely, running}
-use Rattle.xr_simulation.specs.Turns as turn
-use Rattle.xr_simulation.specs.Turns.{Communicates, Has, HasBases, IsAt, IsBehind, IsOnSide, ItemsFrom, Leads, StatementLeads, StandsAt, TakesSteps, Turns, cost, takes_in}
+use Rattle.xr_simulation.specs.NextStep as turn
+use Rattle.xr_simulation.specs.NextStep.{Communicates, Has, HasBases, IsAt, IsBehind, IsOnSide, ItemsFrom, Leads, StatementLeads, IsPlacedAt, TakesSteps, StableNextStep, cost, takes_in}
 use Rattle.xr_simulation.proofs.RelyGuarantee.Arrival.{Since, any_part, apart_of_changes, arrives, at_runs, since_kept}
 use Rattle.xr_simulation.proofs.Image.Bases.{bases_scratched, bases_worked}
 use Rattle.xr_simulation.proofs.Image.Identifiers.{end_named}
@@ -50,7 +50,7 @@ module _ (g : Setting) (r : Runner) (rest : List Item) (exits : List Exit) (pc p
         storing_unwatched g r target regs.r0 rest unwatched,
         λ core. storing_stands g r rest (pc + length transfer) j write written core unwatched
             (λ later other bases' same.
-            subst (λ q. StandsAt g r rest j q later other) write_end (items_stand g r rest exits pc' j later other behind))
+            subst (λ q. IsPlacedAt g r rest j q later other) write_end (items_stand g r rest exits pc' j later other behind))
             target writes regs.r0 regs bases refl,
       )
 
@@ -101,8 +101,8 @@ take_leads g r i c to_channel used rest exits pc pc' j z regs laid piece fits (s
     let way = parts.takes.by (home g r) (relied g r) r.stack r.thread (end_place g r c side) (running r.tie pc regs) z.core (stand_front (code g r) pc parts.transfer parts.write stand)
     (runs_at g r z pc regs here) (room_of g r laid z regs bases has.holds) (end_stands g r c side z named regs bases) in
     let outcome = AtProtocol (home g r) (relied g r) r.stack r.thread (end_place g r c side) (running r.tie pc regs) z.core.words i.pos (input_acts R0 true) (EndsAt (pc + length parts.transfer)) in
-    leads_more g r (Turns g r j) 3 (cost g r) z (omega arith)
-    (leads_as g r (λ y. outcome y.core × Since g r (IsApart r.stack) any_part z y) (Turns g r j) 3 z
+    leads_more g r (StableNextStep g r j) 3 (cost g r) z (omega arith)
+    (leads_as g r (λ y. outcome y.core × Since g r (IsApart r.stack) any_part z y) (StableNextStep g r j) 3 z
     (λ y h q k.
     let since = since_kept g r (IsApart r.stack) any_part h.1 k in
     turn.communicates (takes_in i) (takes_there g r rest exits pc pc' j parts.transfer parts.write end

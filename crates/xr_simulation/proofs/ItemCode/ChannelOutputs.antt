@@ -24,8 +24,8 @@ use Rattle.xl_statements.specs.Pieces.{ByEndAt, Exit}
 use Rattle.xr_simulation.specs.Fits.{Fits, ItemsFit, OutputFits}
 use Rattle.xr_simulation.specs.Runners.{Setting, Runner, IsChannel, IsLaidOut, code, end_place, home, plan, relied}
 use Rattle.xr_simulation.specs.ThreadViews.{ThreadView, Rely, running}
-use Rattle.xr_simulation.specs.Turns as turn
-use Rattle.xr_simulation.specs.Turns.{Communicates, Has, HasBases, IsAt, IsBehind, ItemsFrom, Leads, TakesSteps, Turn, Turns, cost, puts_out}
+use Rattle.xr_simulation.specs.NextStep as turn
+use Rattle.xr_simulation.specs.NextStep.{Communicates, Has, HasBases, IsAt, IsBehind, ItemsFrom, Leads, TakesSteps, NextStep, StableNextStep, cost, puts_out}
 use Rattle.xr_simulation.proofs.RelyGuarantee.Arrival.{Since, any_part, apart_of_changes, arrives, at_runs, core_kept, since_kept}
 use Rattle.xr_simulation.proofs.Image.Bases.{bases_worked}
 use Rattle.xr_simulation.proofs.ItemCode.Evaluations.{eval_still, nodes_are, value_errs}
@@ -86,7 +86,7 @@ module _ (g : Setting) (r : Runner) (laid : IsLaidOut g r) (o : kernel.Output) (
   output_turns : (z : ThreadView) (regs : Regs) → HasBases g r regs → z.hand ≡ None → Has g r (item ∷ rest) z → (v : Value) →
       eval z.world.store o.value ≡ v → (y : ThreadView) →
       OutputReaches (home g r) (relied g r) r.stack r.thread (end_place g r c side) (running r.tie pc regs) z.core.words true o.pos pc' v y.core →
-      Since g r (IsApart r.stack) any_part z y → Turns g r j y
+      Since g r (IsApart r.stack) any_part z y → StableNextStep g r j y
   output_turns z regs bases no_hand has v is y reaches since q k = by v is reaches
     where
       since' : Since g r (IsApart r.stack) any_part z q
@@ -98,7 +98,7 @@ module _ (g : Setting) (r : Runner) (laid : IsLaidOut g r) (o : kernel.Output) (
       still : (d : Value) → eval z.world.store o.value ≡ d → eval q.world.store o.value ≡ d
       still d e = eval_still (plan g r).vars r.footprint.uses z.world.store q.world.store since'.store o.value fits.value ∙ e
 
-      by : (v : Value) → eval z.world.store o.value ≡ v → OutputReaches (home g r) (relied g r) r.stack r.thread (end_place g r c side) (running r.tie pc regs) z.core.words true o.pos pc' v y.core → Turn g r j q
+      by : (v : Value) → eval z.world.store o.value ≡ v → OutputReaches (home g r) (relied g r) r.stack r.thread (end_place g r c side) (running r.tie pc regs) z.core.words true o.pos pc' v y.core → NextStep g r j q
       by (word v) e at = turn.communicates (puts_out o v)
           (offers_there z y q regs v bases k (since'.hand ∙ no_hand) has_q (still (word v) e) at)
       by (error kind pos) e traps =
@@ -122,7 +122,7 @@ offer_leads g r o c to_channel used rest exits pc pc' j z regs laid piece (fits,
     let outcome = OutputReaches (home g r) (relied g r) r.stack r.thread (end_place g r c side) (running r.tie pc regs) z.core.words true o.pos at_end v in
     let behind' = subst (λ p. ItemsFrom g r rest exits p j) piece'.end behind in
     let le : most ≤ cost g r = let a = nodes_are o.value in omega (arith, counted, a) in
-    leads_more g r (Turns g r j) most (cost g r) z le
-    (leads_as g r (λ y. outcome y.core × Since g r (IsApart r.stack) any_part z y) (Turns g r j) most z
+    leads_more g r (StableNextStep g r j) most (cost g r) z le
+    (leads_as g r (λ y. outcome y.core × Since g r (IsApart r.stack) any_part z y) (StableNextStep g r j) most z
     (λ y h. output_turns g r laid o fits c to_channel side stands_in rest exits pc at_end j behind' (fits, counted) rest_fits z regs bases no_hand has v refl y h.0 h.1)
     (arrives g r (IsApart r.stack) (apart_of_changes g r) outcome most z (at_runs g r z pc regs here) way))

@@ -25,7 +25,7 @@ use Rattle.xl_expr.specs.Works.{trap_of}
 use Rattle.xl_expr.proofs.Lists.{get_set_same}
 use Rattle.xr_simulation.specs.Runners.{Setting, Runner, home}
 use Rattle.xr_simulation.specs.ThreadViews.{ThreadView}
-use Rattle.xr_simulation.specs.Turns.{Runs, Acts, Errs, Has, failed, own_go}
+use Rattle.xr_simulation.specs.NextStep.{Runs, Acts, Errs, Has, failed, own_go}
 
 -- an expression costs what it counts
 mutual

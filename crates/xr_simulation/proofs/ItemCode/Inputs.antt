@@ -6,7 +6,7 @@ use Rattle.xc_kernel.specs.Plain as kernel
 use Rattle.xl_statements.specs.Pieces.{InputAt}
 use Rattle.xr_simulation.specs.Fits.{TakesInAt}
 use Rattle.xr_simulation.specs.Runners.{Setting, Runner, code, plan}
-use Rattle.xr_simulation.specs.Turns.{IsOnSide, Leads, StatementLeads, cost}
+use Rattle.xr_simulation.specs.NextStep.{IsOnSide, Leads, StatementLeads, cost}
 use Rattle.xr_simulation.proofs.ItemCode.ChannelInputs.{take_leads}
 
 module _ (g : Setting) (r : Runner) where

@@ -16,8 +16,8 @@ use Rattle.xl_expr.proofs.ResourceParts.{others_same}
 use Rattle.xl_statements.specs.Pieces as pieces
 use Rattle.xr_simulation.specs.Runners.{Setting, Runner, code, home, plan}
 use Rattle.xr_simulation.specs.ThreadViews.{IsStable, LeadsIn, ThreadView, IsSilentStep, after, keeps, running}
-use Rattle.xr_simulation.specs.Turns as turn
-use Rattle.xr_simulation.specs.Turns.{StatementLeads, IsAt, IsSized, Has, Leads, Turns, cost}
+use Rattle.xr_simulation.specs.NextStep as turn
+use Rattle.xr_simulation.specs.NextStep.{StatementLeads, IsAt, IsSized, Has, Leads, StableNextStep, cost}
 use Rattle.xr_simulation.proofs.RelyGuarantee.ThreadViews.{leads_now}
 use Rattle.xr_simulation.proofs.RelyGuarantee.Arrival.{at_runs, same_use}
 use Rattle.xr_simulation.proofs.RelyGuarantee.Layouts.{has_kept, ports_last}
@@ -99,7 +99,7 @@ module _ (g : Setting) (r : Runner) where
       Has g r items z → IsSized g r z →
       ((y : ThreadView) → IsAt g r y q regs → Has g r items y → IsSized g r y → y.hand ≡ z.hand → Leads g r m j y) → Leads g r (k + m) j z
   jumps_lead k m j z pc q regs items jumps here has sized next =
-      jumps_way (λ y. Has g r items y × IsSized g r y × (y.hand ≡ z.hand)) (Turns g r j)
+      jumps_way (λ y. Has g r items y × IsSized g r y × (y.hand ≡ z.hand)) (StableNextStep g r j)
       (λ x y kept h. (has_kept g r items x y kept h.0, kept.sizes ∙ h.1, kept.hand ∙ h.2))
       (λ y from to regs' h. (has_moved y from to regs' items h.0, h.1, h.2))
       k m z pc q regs jumps here (has, sized, refl) (λ y at_q h. next y at_q h.0 h.1 h.2)
@@ -108,7 +108,7 @@ module _ (g : Setting) (r : Runner) where
   pub exit_item_leads : (n : ℕ) → StatementLeads g r (kernel.exit n)
   exit_item_leads n rest exits pc pc' j z regs laid (q, is, at_pc, end) fits sided behind rest_fits has sized here bases no_hand =
       let on = exits_lead (plan g r) (code g r) r.sides (turn.EndOf g r) rest exits n q pc' j is behind in
-      leads_now g r (Turns g r j) (cost g r) z (λ y k.
+      leads_now g r (StableNextStep g r j) (cost g r) z (λ y k.
       let has_y = has_kept g r (does (kernel.exit n) ∷ rest) z y k has in
       let here_y : IsAt g r y pc regs = k.thread ∙ here in
       turn.goes_on (spot_goes g r j y q regs

@@ -9,8 +9,8 @@ use Rattle.xr_simulation.specs.Parents.{Parent}
 use Rattle.xr_simulation.specs.Runners.{Setting, Runner, IsLaidOut, code, plan}
 use Rattle.xr_simulation.specs.ThreadViews.{ThreadView}
 use Rattle.xr_simulation.specs.Settled.{IsOutermost, IsOwn}
-use Rattle.xr_simulation.specs.Standing.{IsOnItsWay}
-use Rattle.xr_simulation.specs.Turns.{IsSized, Rest, cost, first_hand}
+use Rattle.xr_simulation.specs.MatchStates.{IsOnItsWay}
+use Rattle.xr_simulation.specs.NextStep.{IsSized, Rest, cost, first_hand}
 use Rattle.xr_simulation.proofs.OwnSteps.Ends.{end_leads}
 use Rattle.xr_simulation.proofs.ItemCode.Jumps.{jumps_lead}
 use Rattle.xr_simulation.proofs.Relation.Sides.{FirstIsSided}

@@ -11,7 +11,7 @@ use Rattle.xl_ends.specs.Ends.{end_at, end_of_side}
 use Rattle.xl_statements.specs.Pieces.{ByEndAt, LinesAt}
 use Rattle.xr_simulation.specs.Runners.{Setting, Runner, code, end_place, home, plan, relied}
 use Rattle.xr_simulation.specs.ThreadViews.{ThreadView}
-use Rattle.xr_simulation.specs.Turns.{HasBases}
+use Rattle.xr_simulation.specs.NextStep.{HasBases}
 use Rattle.xr_simulation.proofs.Image.Identifiers.{EndIsNamed}
 
 module _ (g : Setting) (r : Runner) (c : ℕ) (side : Side) (z : ThreadView) (named : EndIsNamed g r c side z) where

@@ -27,7 +27,7 @@ use Rattle.xl_statements.specs.Pieces.{Exit}
 use Rattle.xr_simulation.specs.Fits.{ChangesAt, ItemsFit, greatest}
 use Rattle.xr_simulation.specs.Runners.{IsMine, IsPort, IsTimer, Setting, Runner, IsLaidOut, code, home, plan, port_place, relied, timer_place}
 use Rattle.xr_simulation.specs.ThreadViews.{ThreadView, Rely}
-use Rattle.xr_simulation.specs.Turns.{HasBases, HasStamp, IsAt, ItemsFrom, Leads, SameParts, StandsAt, Turn, Turns, cost, is_watching}
+use Rattle.xr_simulation.specs.NextStep.{HasBases, HasStamp, IsAt, ItemsFrom, Leads, SameParts, IsPlacedAt, NextStep, StableNextStep, cost, is_watching}
 use Rattle.xr_simulation.proofs.Image.Identifiers.{PortIsNamed, TimerIsNamed, port_named, timer_named}
 use Rattle.xr_simulation.proofs.RelyGuarantee.Arrival.{Since, apart_from, apart_of_changes, arrives_with, at_runs, since_kept}
 use Rattle.xr_simulation.proofs.RelyGuarantee.Events.{items_unwatched}
@@ -81,11 +81,11 @@ module _ (g : Setting) (r : Runner) where
   pub resource_leads : (mine : Res → Type 0) → ((res : Res) → mine res → IsMine g r res) → (Q : CoreState → Type 0) (n j : ℕ)
       (z : ThreadView) (pc : ℕ) (regs : Regs) → n ≤ cost g r → IsAt g r z pc regs →
       WithinParts (home g r) (relied g r) (IsApart r.stack) mine r.thread Q n z.core →
-      ((y q : ThreadView) → Q y.core → Rely g r y q → Since g r (IsApart r.stack) (apart_from mine) z q → Turn g r j q) →
+      ((y q : ThreadView) → Q y.core → Rely g r y q → Since g r (IsApart r.stack) (apart_from mine) z q → NextStep g r j q) →
       Leads g r (cost g r) j z
   resource_leads mine own Q n j z pc regs few here way turns =
-      leads_more g r (Turns g r j) n (cost g r) z few
-      (leads_as g r (λ y. Q y.core × Since g r (IsApart r.stack) (apart_from mine) z y) (Turns g r j) n z
+      leads_more g r (StableNextStep g r j) n (cost g r) z few
+      (leads_as g r (λ y. Q y.core × Since g r (IsApart r.stack) (apart_from mine) z y) (StableNextStep g r j) n z
       (λ y h q k. turns y q h.0 k (since_kept g r (IsApart r.stack) (apart_from mine) h.1 k))
       (arrives_with g r (IsApart r.stack) (apart_of_changes g r) mine own Q n z (at_runs g r z pc regs here) way))
 
@@ -111,7 +111,7 @@ module _ (g : Setting) (r : Runner) where
   module _ (p v : ℕ) (rest : List Item) (exits : List Exit) (at pc' j : ℕ) (lines : List Line) (stand : StandAt (code g r) at lines)
       (end : pc' ≡ at + length lines) (behind : ItemsFrom g r rest exits pc' j) where
     pub stamping_stands : (stamp : Option kernel.Place) → StampsTo (plan g r) (resource.Port p) stamp at lines → (regs : Regs)
-        (core : CoreState) → HasStamp g r p v core → StandsAt g r (stamping (resource.Port p) stamp v rest) j at regs core
+        (core : CoreState) → HasStamp g r p v core → IsPlacedAt g r (stamping (resource.Port p) stamp v rest) j at regs core
     stamping_stands None none regs core has =
         let same : pc' ≡ at = let e = ap length none in omega (arith, e, end) in
         items_stand g r rest exits at j regs core (subst (λ q. ItemsFrom g r rest exits q j) same behind)
@@ -127,11 +127,11 @@ module _ (g : Setting) (r : Runner) where
   module _ (rest : List Item) (at j : ℕ) (lines : List Line) (stand : StandAt (code g r) at lines) (core : CoreState)
       (unwatched : is_watching rest ≡ false)
       (behind : (regs' : Regs) (core' : CoreState) → HasBases g r regs' → SameParts g r.core rest core core' →
-      StandsAt g r rest j (at + length lines) regs' core') where
+      IsPlacedAt g r rest j (at + length lines) regs' core') where
     pub storing_stands : (target : Option kernel.Place) → WritesTo (plan g r).vars target at lines → (v : ℕ) (regs : Regs) →
-        HasBases g r regs → regs.r0 ≡ v → StandsAt g r (storing target v rest) j at regs core
+        HasBases g r regs → regs.r0 ≡ v → IsPlacedAt g r (storing target v rest) j at regs core
     storing_stands None none v regs bases is =
         let same : at + length lines ≡ at = let e = ap length none in omega (arith, e) in
-        subst (λ q. StandsAt g r rest j q regs core) same (behind regs core bases (λ part on. refl))
+        subst (λ q. IsPlacedAt g r rest j q regs core) same (behind regs core bases (λ part on. refl))
     storing_stands (Some place) writes v regs bases is =
         (at + length lines, is, record { lines = lines; stand = stand; so = writes; end = refl }, unwatched, behind)

@@ -31,7 +31,7 @@ use Rattle.xl_statements.specs.Pieces.{LinesAt, OutputAt}
 use Rattle.xr_simulation.specs.Fits.{PutsOutAt}
 use Rattle.xr_simulation.specs.Runners.{Setting, Runner, code, plan}
 use Rattle.xr_simulation.specs.StampedOutputs.{DrivesPort, OutputOutcome, Outputs, driving_nodes}
-use Rattle.xr_simulation.specs.Turns.{IsOnSide, Leads, StatementLeads, cost}
+use Rattle.xr_simulation.specs.NextStep.{IsOnSide, Leads, StatementLeads, cost}
 use Rattle.xr_simulation.proofs.ItemCode.ChannelOutputs.{offer_leads}
 use Rattle.xr_simulation.proofs.ItemCode.PortOutputs.{port_output_leads}
 

@@ -15,7 +15,7 @@ use Rattle.xl_ends.specs.Ends.{Sides}
 use Rattle.xl_statements.specs.Pieces.{PiecesAt, SlaveEndsAt, SlavesAt}
 use Rattle.xr_simulation.specs.Runners.{Setting, Runner, code, plan}
 use Rattle.xr_simulation.specs.ThreadViews.{running}
-use Rattle.xr_simulation.specs.Turns.{AreSetOff, Placed, backwards_on, placed_in}
+use Rattle.xr_simulation.specs.NextStep.{AreSetOff, Placed, backwards_on, placed_in}
 use Rattle.xr_simulation.proofs.ItemCode.Items.{pieces_before}
 use Rattle.xr_simulation.proofs.Relation.Pools.{num_same, started_one}
 

@@ -21,7 +21,7 @@ use Rattle.xr_simulation.specs.Parents.{Parent, sync_before, syncs_of}
 use Rattle.xl_statements.specs.Pieces.{ClosesAt, Exit}
 use Rattle.xr_simulation.specs.Runners.{Setting, Runner, code, home, plan, relied}
 use Rattle.xr_simulation.specs.ThreadViews.{IsSilentStep, Rely, LeadsIn, keeps, Owns, ThreadView, StillRuns, after, running}
-use Rattle.xr_simulation.specs.Turns.{HasBases, HoldsNames, IsAt, Joins, JoinsAt, name_register}
+use Rattle.xr_simulation.specs.NextStep.{HasBases, HoldsNames, IsAt, Joins, JoinsAt, name_register}
 use Rattle.xr_simulation.proofs.RelyGuarantee.Arrival.{at_runs, runs_still, same_use}
 use Rattle.xr_simulation.proofs.RelyGuarantee.Layouts.{runs_at}
 use Rattle.xr_simulation.proofs.RelyGuarantee.ThreadViews.{leads_as}

@@ -21,8 +21,8 @@ use Rattle.xl_statements.specs.Pieces.{Exit, SeveralAt, PiecesAt, SlavesAt}
 use Rattle.xr_simulation.specs.Runners.{Setting, Runner, code, home, plan, relied}
 use Rattle.xr_simulation.specs.ThreadViews.{ThreadView, running}
 use Rattle.xr_simulation.specs.Settled.{HasSeveral}
-use Rattle.xr_simulation.specs.Turns as turn
-use Rattle.xr_simulation.specs.Turns.{Begins, EndOf, Has, HasBases, HoldsNames, IsAt, ItemsFrom, Leads, StatementLeads, Turns, cost, name_register}
+use Rattle.xr_simulation.specs.NextStep as turn
+use Rattle.xr_simulation.specs.NextStep.{Begins, EndOf, Has, HasBases, HoldsNames, IsAt, ItemsFrom, Leads, StatementLeads, StableNextStep, cost, name_register}
 use Rattle.xr_simulation.proofs.RelyGuarantee.Arrival.{at_runs}
 use Rattle.xr_simulation.proofs.Par.AcquiringSteps.{Reached, hand_kept, hand_leads}
 use Rattle.xr_simulation.proofs.ItemCode.Items.{behind_jumps}
@@ -127,8 +127,8 @@ module _ (g : Setting) (r : Runner) (ss : kernel.Statements) (pos : Pos) (b : ke
         (c : CoreState) → KeepsAcquired (relied g r) r.thread hand b c → SetsOff (home g r) (relied g r) (plan g r).first_stack r.thread (running r.tie pc regs) z.core.words piece.starts opens.place (pc + length opens.lines) hand c in
         let way = opens.opens.by (home g r) (relied g r) r.thread (running r.tie pc regs) piece.starts z.core core opens.as_many opens.stand (runs_at g r z pc regs here) in
         let le : 7 * slaves + 9 ≤ cost g r = let counted = fits.1 in omega arith in
-        leads_more g r (Turns g r j) (7 * slaves + 9) (cost g r) z le
-        (leads_as g r (Reached g r Q (does (kernel.par all) ∷ rest)) (Turns g r j) (7 * slaves + 9) z
+        leads_more g r (StableNextStep g r j) (7 * slaves + 9) (cost g r) z le
+        (leads_as g r (Reached g r Q (does (kernel.par all) ∷ rest)) (StableNextStep g r j) (7 * slaves + 9) z
         (λ x reached y k.
         let off = reached.there y.core (hand_kept g r reached.hand x y reached.in_hand k) in
         let off' = subst (λ p. SetsOff (home g r) (relied g r) (plan g r).first_stack r.thread (running r.tie pc regs) z.core.words piece.starts opens.place p reached.hand y.core) (sym opens.end) off in

@@ -35,8 +35,8 @@ use Rattle.xl_statements.specs.Pieces.{Exit, LinesAt}
 use Rattle.xr_simulation.specs.Fits.{AsksRightly, Fits, IsInPort, ItemsFit}
 use Rattle.xr_simulation.specs.Runners.{Setting, Runner, IsLaidOut, code, home, plan, port_place, relied}
 use Rattle.xr_simulation.specs.ThreadViews.{ThreadView, running}
-use Rattle.xr_simulation.specs.Turns as turn
-use Rattle.xr_simulation.specs.Turns.{Goes, Has, HasBases, HasStamp, IsAt, ItemsFrom, Leads, PortIs, StandsAt, Turn, cost, is_watching}
+use Rattle.xr_simulation.specs.NextStep as turn
+use Rattle.xr_simulation.specs.NextStep.{Goes, Has, HasBases, HasStamp, IsAt, ItemsFrom, Leads, PortIs, IsPlacedAt, NextStep, cost, is_watching}
 use Rattle.xr_simulation.proofs.Image.Bases.{bases_scratched, bases_worked}
 use Rattle.xr_simulation.proofs.ItemCode.Evaluations.{with_items}
 use Rattle.xr_simulation.proofs.ItemCode.Items.{storing_fits}
@@ -107,14 +107,14 @@ module _ (g : Setting) (r : Runner) (laid : IsLaidOut g r) (i : kernel.Input) (p
     stamp_unwatched : is_watching stamp_left ≡ false
     stamp_unwatched = stamping_unwatched g r (Port p) i.stamp count rest (items_unwatched g r rest exits pc' j behind)
 
-    stamp_stands : (later : Regs) (core : CoreState) → HasStamp g r p count core → StandsAt g r stamp_left j at_stamp later core
+    stamp_stands : (later : Regs) (core : CoreState) → HasStamp g r p count core → IsPlacedAt g r stamp_left j at_stamp later core
     stamp_stands later core has_stamp =
         stamping_stands g r p count rest exits at_stamp pc' j parts.stamp
         (stand_back (code g r) at_write parts.write parts.stamp writes_stand) stamp_end behind i.stamp
         (subst (λ res. StampsTo (plan g r) res i.stamp at_stamp parts.stamp) from_port parts.stamps) later core has_stamp
 
     left_stands : (last : Regs) (core : CoreState) → HasBases g r last → last.r0 ≡ value → HasStamp g r p count core →
-        StandsAt g r all_left j at_write last core
+        IsPlacedAt g r all_left j at_write last core
     left_stands last core bases' in_r0 has_stamp =
         storing_stands g r stamp_left at_write j parts.write (stand_front (code g r) at_write parts.write parts.stamp writes_stand) core
         stamp_unwatched
@@ -201,7 +201,7 @@ module _ (g : Setting) (r : Runner) (laid : IsLaidOut g r) (i : kernel.Input) (p
               bases_scratched g r w.regs last (r0_alone w.regs (pins_at (home g r) q.core set))
               (bases_worked g r regs w.regs w.others bases)
 
-      pins_turn : Turn g r j q
+      pins_turn : NextStep g r j q
       pins_turn =
           transfer_turn g r at j (meets (home g r) clock set) (all_left value (counter clock)) made
           (step_is (passes when) e ∙ ap (λ b. only_if b (passing when)) (sym agrees)
@@ -214,7 +214,7 @@ module _ (g : Setting) (r : Runner) (laid : IsLaidOut g r) (i : kernel.Input) (p
 
   -- where the code leads, the turn is next
   turns : (t : Timing) → timing z.world.store i.time i.condition ≡ t → (y q : ThreadView) → outcome t y.core →
-      KeptParts (relied g r) mine r.thread y.core q.core → AtTransfer g r mine (kernel.input i) rest z q → Turn g r j q
+      KeptParts (relied g r) mine r.thread y.core q.core → AtTransfer g r mine (kernel.input i) rest z q → NextStep g r j q
   turns (passes when) e y q h kept at = pins_turn q at when e (h q.core kept)
   turns (fails kind pos) e y q h kept at = turn.errs (both_err g r at kind pos (h q.core kept) (step_is q at (fails kind pos) e))
 

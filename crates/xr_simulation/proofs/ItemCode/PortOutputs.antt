@@ -33,8 +33,8 @@ use Rattle.xr_simulation.specs.Fits.{Fits, IsOutPort, ItemsFit, UsesSome}
 use Rattle.xr_simulation.specs.Runners.{Setting, Runner, IsLaidOut, code, home, plan, port_place, relied}
 use Rattle.xr_simulation.specs.StampedOutputs.{OutputOutcome, Outputs, ValueOutcome, driving_nodes}
 use Rattle.xr_simulation.specs.ThreadViews.{ThreadView, running}
-use Rattle.xr_simulation.specs.Turns as turn
-use Rattle.xr_simulation.specs.Turns.{Has, HasBases, HasStamp, IsAt, ItemsFrom, Leads, PortIs, StandsAt, Turn, cost}
+use Rattle.xr_simulation.specs.NextStep as turn
+use Rattle.xr_simulation.specs.NextStep.{Has, HasBases, HasStamp, IsAt, ItemsFrom, Leads, PortIs, IsPlacedAt, NextStep, cost}
 use Rattle.xr_simulation.proofs.Image.Bases.{bases_worked}
 use Rattle.xr_simulation.proofs.ItemCode.Evaluations.{eval_still, nodes_are, with_items}
 use Rattle.xr_simulation.proofs.ItemCode.OnResources.{port_stands, stamping_fits, stamping_stands, stamping_unwatched}
@@ -103,7 +103,7 @@ module _ (g : Setting) (r : Runner) (laid : IsLaidOut g r) (o : kernel.Output) (
   abbrev left : (count : ℕ) → List Item
   left count = stamping (Port p) o.stamp count rest
 
-  left_stands : (count : ℕ) (last : Regs) (core : CoreState) → HasStamp g r p count core → StandsAt g r (left count) j at_stamp last core
+  left_stands : (count : ℕ) (last : Regs) (core : CoreState) → HasStamp g r p count core → IsPlacedAt g r (left count) j at_stamp last core
   left_stands count last core has_stamp =
       stamping_stands g r p count rest exits at_stamp pc' j parts.stamp
       (stand_back (code g r) pc parts.transfer parts.stamp all_stand) stamp_end behind o.stamp
@@ -195,7 +195,7 @@ module _ (g : Setting) (r : Runner) (laid : IsLaidOut g r) (o : kernel.Output) (
             moved : PortState
             moved = moved_at (set_for time port) count
 
-        word_turn : Turn g r j q
+        word_turn : NextStep g r j q
         word_turn =
             transfer_turn g r at j (is_due time q.core) (left count) made
             (step_is (word v) e ∙ ap (λ b. only_if b passing) (sym (agrees time)) ∙ ap (only_if (is_due time q.core)) passing_is)
@@ -212,7 +212,7 @@ module _ (g : Setting) (r : Runner) (laid : IsLaidOut g r) (o : kernel.Output) (
   -- Where the code leads, the turn is next: by the value,
   value_turns : (time : Option ℕ) → option_map (eval z.world.store) o.time ≡ option_map word time → (value : Value) →
       eval z.world.store o.value ≡ value → (y q : ThreadView) → at_value time value y.core →
-      KeptParts (relied g r) mine r.thread y.core q.core → AtTransfer g r mine (kernel.output o) rest z q → Turn g r j q
+      KeptParts (relied g r) mine r.thread y.core q.core → AtTransfer g r mine (kernel.output o) rest z q → NextStep g r j q
   value_turns time e (word v) f y q h kept at = word_turn q at time e v f (h q.core kept)
   value_turns time e (error kind pos) f y q h kept at =
       turn.errs (both_err g r at kind pos (h q.core kept) (step_is q at time e (error kind pos) f))
@@ -220,7 +220,7 @@ module _ (g : Setting) (r : Runner) (laid : IsLaidOut g r) (o : kernel.Output) (
   -- and by the time, whose error comes first.
   turns : (time : Option Value) (value : Value) → option_map (eval z.world.store) o.time ≡ time → eval z.world.store o.value ≡ value →
       (y q : ThreadView) → at_end time value y.core → KeptParts (relied g r) mine r.thread y.core q.core →
-      AtTransfer g r mine (kernel.output o) rest z q → Turn g r j q
+      AtTransfer g r mine (kernel.output o) rest z q → NextStep g r j q
   turns None value e f y q h kept at = value_turns None e value f y q h kept at
   turns (Some (word t)) value e f y q h kept at = value_turns (Some t) e value f y q h kept at
   turns (Some (error kind pos)) value e f y q h kept at =

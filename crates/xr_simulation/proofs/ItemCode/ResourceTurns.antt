@@ -37,8 +37,8 @@ use Rattle.xl_expr.proofs.ResourceParts.{enabled_same, others_fewer, others_of_p
 use Rattle.xr_simulation.specs.Fits.{ItemsFit}
 use Rattle.xr_simulation.specs.Runners.{IsLaidOut, IsMine, IsPort, IsTimer, Setting, Runner, home, port_place, relied, timer_place}
 use Rattle.xr_simulation.specs.ThreadViews.{ThreadView, running}
-use Rattle.xr_simulation.specs.Turns as turn
-use Rattle.xr_simulation.specs.Turns.{Goes, Has, HasBases, IsAt, Leads, PortsStand, Runs, StandsAt, Turn, cost, is_watching, own_go}
+use Rattle.xr_simulation.specs.NextStep as turn
+use Rattle.xr_simulation.specs.NextStep.{Goes, Has, HasBases, IsAt, Leads, PortsStand, Runs, IsPlacedAt, NextStep, cost, is_watching, own_go}
 use Rattle.xr_simulation.proofs.ItemCode.Evaluations.{item_acts, runs_with, value_errs, with_items}
 use Rattle.xr_simulation.proofs.ItemCode.OnResources.{resource_leads}
 use Rattle.xr_simulation.proofs.Relation.PortDeclarations.{declared_there, made_declared}
@@ -137,7 +137,7 @@ module _ (g : Setting) (r : Runner) where
     pub moves : MovesOn y pc regs ports timers made
     pub bases : HasBases g r regs
     pub unwatched : is_watching items ≡ false
-    pub stands : StandsAt g r items j pc regs (moved_on y.core pc regs ports timers)
+    pub stands : IsPlacedAt g r items j pc regs (moved_on y.core pc regs ports timers)
     pub fits : ItemsFit g r items
 
   -- A thread is at the end of its way to a transfer over these of the runner's resources, which its branch has to do next.
@@ -153,7 +153,7 @@ module _ (g : Setting) (r : Runner) where
       (z : ThreadView) (pc : ℕ) (regs : Regs) → n ≤ cost g r → IsAt g r z pc regs →
       WithinParts (home g r) (relied g r) (IsApart r.stack) mine r.thread Q n z.core →
       IsLaidOut g r → (t : kernel.Statement) (rest : List Item) → Has g r (does t ∷ rest) z → z.hand ≡ None →
-      ((y q : ThreadView) → Q y.core → KeptParts (relied g r) mine r.thread y.core q.core → AtTransfer mine t rest z q → Turn g r j q) →
+      ((y q : ThreadView) → Q y.core → KeptParts (relied g r) mine r.thread y.core q.core → AtTransfer mine t rest z q → NextStep g r j q) →
       Leads g r (cost g r) j z
   transfer_leads mine own Q n j z pc regs few here way laid t rest had no_hand turns =
       resource_leads g r mine own Q n j z pc regs few here way (λ y q h k since.
@@ -251,7 +251,7 @@ module _ (g : Setting) (r : Runner) where
     -- it passes on both sides, or neither goes on
     pub transfer_turn : (j : ℕ) (may_pass : Bool) (items : List Item) (made : Option Record) →
         does_item setting (does t) ≡ only_if may_pass (passed items made) →
-        (may_pass ≡ false → slot (home g r) q.core r.thread ≡ Paused) → (may_pass ≡ true → Passes j q items made) → Turn g r j q
+        (may_pass ≡ false → slot (home g r) q.core r.thread ≡ Paused) → (may_pass ≡ true → Passes j q items made) → NextStep g r j q
     transfer_turn j true items made step waits passes =
         turn.goes_on (both_pass j items made (passes refl)
         (item_acts g.program g.stimulus r.branch q.world has_still.branch (does t) rest has_still.runs ∙ step))

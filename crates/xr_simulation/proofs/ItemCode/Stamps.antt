@@ -14,7 +14,7 @@ use Rattle.xl_expr.specs.Stores.{StoreOutcome, index_in}
 use Rattle.xr_simulation.specs.Fits.{ItemsFit}
 use Rattle.xr_simulation.specs.Runners.{Setting, Runner, IsLaidOut, home, plan, port_place, relied}
 use Rattle.xr_simulation.specs.ThreadViews.{ThreadView, running}
-use Rattle.xr_simulation.specs.Turns.{Has, HasBases, IsAt, Leads, StandsAt, cost}
+use Rattle.xr_simulation.specs.NextStep.{Has, HasBases, IsAt, Leads, IsPlacedAt, cost}
 use Rattle.xr_simulation.proofs.ItemCode.Evaluations.{nodes_at_are}
 use Rattle.xr_simulation.proofs.ItemCode.OnResources.{port_stands, resource_leads}
 use Rattle.xr_simulation.proofs.ItemCode.Writes.{store_turns, target_changed}
@@ -24,7 +24,7 @@ use Rattle.xr_simulation.proofs.RelyGuarantee.Layouts.{has_since_port, place_lai
 -- from behind the transfer to the store
 pub stamped_leads : (g : Setting) (r : Runner) → IsLaidOut g r →
     (p : ℕ) (place : kernel.Place) (v : ℕ) (rest : List Item) (j index : ℕ) (regs : Regs) (z : ThreadView) →
-    HasBases g r regs → StandsAt g r (stamps (Port p) place v ∷ rest) j index regs z.core → IsAt g r z index regs →
+    HasBases g r regs → IsPlacedAt g r (stamps (Port p) place v ∷ rest) j index regs z.core → IsAt g r z index regs →
     Has g r (stamps (Port p) place v ∷ rest) z → ItemsFit g r (stamps (Port p) place v ∷ rest) →
     z.hand ≡ None → Leads g r (cost g r) j z
 stamped_leads g r laid p place v rest j index regs z bases (stored, (port, there, stamp), code, unwatched, behind) here has
@@ -39,8 +39,8 @@ stamped_leads g r laid p place v rest j index regs z bases (stored, (port, there
     code.stand (runs_at g r z index regs here) (room_of g r laid z regs bases has.holds)
     (place_laid_at g r laid z regs place uses_place bases has.holds)
     (port_stands g r laid z regs (Port p) p listed port refl is there bases) in
-    let behind' : (regs' : Regs) (core' : CoreState) → HasBases g r regs' → StandsAt g r rest j at_end regs' core' =
-    subst (λ q. (regs' : Regs) (core' : CoreState) → HasBases g r regs' → StandsAt g r rest j q regs' core') code.end behind in
+    let behind' : (regs' : Regs) (core' : CoreState) → HasBases g r regs' → IsPlacedAt g r rest j at_end regs' core' =
+    subst (λ q. (regs' : Regs) (core' : CoreState) → HasBases g r regs' → IsPlacedAt g r rest j q regs' core') code.end behind in
     let le : most ≤ cost g r = let a = nodes_at_are place in omega (arith, a, counted) in
     resource_leads g r alone (alone_mine g r p listed is) (outcome v) most j z index regs le here
     (subst (λ w. WithinParts (home g r) (relied g r) (IsApart r.stack) alone r.thread (outcome w) most z.core) stamp way)

@@ -5,7 +5,7 @@ use Rattle.xc_kernel.specs.Plain as kernel
 use Rattle.xc_meaning.specs.States.Items.{Item, does}
 use Rattle.xr_simulation.specs.Runners.{Setting, Runner}
 use Rattle.xr_simulation.specs.Settled.{IsOwn}
-use Rattle.xr_simulation.specs.Turns.{StatementLeads}
+use Rattle.xr_simulation.specs.NextStep.{StatementLeads}
 use Rattle.xr_simulation.proofs.ItemCode.Jumps.{exit_item_leads}
 use Rattle.xr_simulation.proofs.ItemCode.Outputs.{output_leads}
 use Rattle.xr_simulation.proofs.ItemCode.ParOpens.{par_leads}

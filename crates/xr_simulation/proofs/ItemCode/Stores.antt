@@ -12,7 +12,7 @@ use Rattle.xl_expr.specs.Stores.{StoreOutcome, index_in}
 use Rattle.xr_simulation.specs.Fits.{ItemsFit}
 use Rattle.xr_simulation.specs.Runners.{Setting, Runner, IsLaidOut, home, plan, relied}
 use Rattle.xr_simulation.specs.ThreadViews.{ThreadView, running}
-use Rattle.xr_simulation.specs.Turns.{Has, HasBases, IsAt, Leads, SameParts, StandsAt, Turns, cost}
+use Rattle.xr_simulation.specs.NextStep.{Has, HasBases, IsAt, Leads, SameParts, IsPlacedAt, StableNextStep, cost}
 use Rattle.xr_simulation.proofs.RelyGuarantee.Arrival.{Since, any_part, apart_of_changes, arrives, at_runs, since_kept}
 use Rattle.xr_simulation.proofs.ItemCode.Evaluations.{nodes_at_are}
 use Rattle.xr_simulation.proofs.RelyGuarantee.Layouts.{has_since, place_laid_at, room_of, runs_at}
@@ -22,7 +22,7 @@ use Rattle.xr_simulation.proofs.ItemCode.Writes.{store_turns, target_changed}
 -- from behind the transfer to the store
 pub stored_leads : (g : Setting) (r : Runner) → IsLaidOut g r →
     (place : kernel.Place) (v : ℕ) (rest : List Item) (j index : ℕ) (regs : Regs) (z : ThreadView) →
-    HasBases g r regs → StandsAt g r (stores place v ∷ rest) j index regs z.core → IsAt g r z index regs →
+    HasBases g r regs → IsPlacedAt g r (stores place v ∷ rest) j index regs z.core → IsAt g r z index regs →
     Has g r (stores place v ∷ rest) z → ItemsFit g r (stores place v ∷ rest) →
     z.hand ≡ None → Leads g r (cost g r) j z
 stored_leads g r laid place v rest j index regs z bases (stored, is, code, unwatched, behind) here has
@@ -34,12 +34,12 @@ stored_leads g r laid place v rest j index regs z bases (stored, is, code, unwat
     (running r.tie index regs) z.core.words place w at_end i y.core in
     let way = code.so.by (home g r) (relied g r) r.stack r.thread (running r.tie index regs) z.world.store z.core code.stand (runs_at g r z index regs here) (room_of g r laid z regs bases has.holds) (place_laid_at g r laid z regs place uses_place bases has.holds) in
     let behind' : (regs' : Regs) (core' : CoreState) → HasBases g r regs' → SameParts g r.core rest z.core core' →
-    StandsAt g r rest j at_end regs' core' =
+    IsPlacedAt g r rest j at_end regs' core' =
     subst (λ p. (regs' : Regs) (core' : CoreState) → HasBases g r regs' → SameParts g r.core rest z.core core' →
-    StandsAt g r rest j p regs' core') code.end behind in
+    IsPlacedAt g r rest j p regs' core') code.end behind in
     let le : most ≤ cost g r = let a = nodes_at_are place in omega arith in
-    leads_more g r (Turns g r j) most (cost g r) z le
-    (leads_as g r (λ y. outcome regs.r0 y × Since g r (IsApart r.stack) any_part z y) (Turns g r j) most z
+    leads_more g r (StableNextStep g r j) most (cost g r) z le
+    (leads_as g r (λ y. outcome regs.r0 y × Since g r (IsApart r.stack) any_part z y) (StableNextStep g r j) most z
     (λ y h q k.
     let since = since_kept g r (IsApart r.stack) any_part h.1 k in
     let has_q = has_since g r laid (stores place v ∷ rest) z q since (since.room has.holds.room) has in

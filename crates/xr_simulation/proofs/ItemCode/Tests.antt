@@ -20,8 +20,8 @@ use Rattle.xl_statements.specs.Pieces.{Exit, TestAt}
 use Rattle.xr_simulation.specs.Fits.{ItemsFit, Uses, greatest}
 use Rattle.xr_simulation.specs.Runners.{Setting, Runner, IsLaidOut, code, home, plan, relied}
 use Rattle.xr_simulation.specs.ThreadViews.{ThreadView, running}
-use Rattle.xr_simulation.specs.Turns as turn
-use Rattle.xr_simulation.specs.Turns.{EndOf, StatementLeads, IsAt, ItemsFrom, HasBases, Has, Runs, Goes, Turns, Leads, cost}
+use Rattle.xr_simulation.specs.NextStep as turn
+use Rattle.xr_simulation.specs.NextStep.{EndOf, StatementLeads, IsAt, ItemsFrom, HasBases, Has, Runs, Goes, StableNextStep, Leads, cost}
 use Rattle.xr_simulation.proofs.RelyGuarantee.ThreadViews.{leads_as, leads_more}
 use Rattle.xr_simulation.proofs.RelyGuarantee.Arrival.{Since, at_runs, any_part, since_kept, core_kept, apart_of_changes, arrives}
 use Rattle.xr_simulation.proofs.RelyGuarantee.Layouts.{has_since, room_of, runs_at, laid_at}
@@ -67,7 +67,7 @@ module _ (g : Setting) (r : Runner) (laid : IsLaidOut g r) (t : kernel.Statement
   test_turns : (z : ThreadView) (regs : Regs) → HasBases g r regs → z.hand ≡ None → Has g r (does t ∷ rest) z → (v : Value) →
       eval z.world.store x ≡ v → (y : ThreadView) →
       TestOutcome (home g r) (relied g r) r.stack r.thread (running r.tie pc regs) z.core.words target next v y.core →
-      Since g r (IsApart r.stack) any_part z y → Turns g r j y
+      Since g r (IsApart r.stack) any_part z y → StableNextStep g r j y
   test_turns z regs bases no_hand has (word v) is y outcome since q k =
       let b = outcome q.core (core_kept g r k) in
       let since' = since_kept g r (IsApart r.stack) any_part since k in
@@ -95,8 +95,8 @@ test_leads g r laid t rest x uses counted held other begins exits pc next target
     let most = steps_before v (8 * nodes x) in
     let at_held' = subst (λ p. ItemsFrom g r held exits p n) test.end at_held in
     let le : most ≤ cost g r = let a = before_few v (8 * nodes x) in let e = nodes_are x in omega arith in
-    leads_more g r (Turns g r j) most (cost g r) z le
-    (leads_as g r (λ y. outcome y.core × Since g r (IsApart r.stack) any_part z y) (Turns g r j) most z
+    leads_more g r (StableNextStep g r j) most (cost g r) z le
+    (leads_as g r (λ y. outcome y.core × Since g r (IsApart r.stack) any_part z y) (StableNextStep g r j) most z
     (λ y h. test_turns g r laid t rest x uses held other begins exits pc behind target n m j at_held' held_fits few_held at_other other_fits few_other z regs bases no_hand has v refl y h.0 h.1)
     (arrives g r (IsApart r.stack) (apart_of_changes g r) outcome most z (at_runs g r z pc regs here) way))
 

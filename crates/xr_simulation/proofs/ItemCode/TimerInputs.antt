@@ -30,8 +30,8 @@ use Rattle.xl_statements.specs.Pieces.{Exit, LinesAt}
 use Rattle.xr_simulation.specs.Fits.{AsksRightly, Fits, IsReadTimer, ItemsFit}
 use Rattle.xr_simulation.specs.Runners.{Setting, Runner, IsLaidOut, code, home, plan, relied, timer_place}
 use Rattle.xr_simulation.specs.ThreadViews.{ThreadView, running}
-use Rattle.xr_simulation.specs.Turns as turn
-use Rattle.xr_simulation.specs.Turns.{Goes, Has, HasBases, IsAt, IsSized, ItemsFrom, Leads, StandsAt, TimerIs, Turn, cost}
+use Rattle.xr_simulation.specs.NextStep as turn
+use Rattle.xr_simulation.specs.NextStep.{Goes, Has, HasBases, IsAt, IsSized, ItemsFrom, Leads, IsPlacedAt, TimerIs, NextStep, cost}
 use Rattle.xr_simulation.proofs.Image.Bases.{bases_scratched, bases_worked}
 use Rattle.xr_simulation.proofs.Image.Identifiers.{timer_there}
 use Rattle.xr_simulation.proofs.ItemCode.Items.{storing_fits}
@@ -84,11 +84,11 @@ module _ (g : Setting) (r : Runner) (laid : IsLaidOut g r) (i : kernel.Input) (t
 
   -- where the clock is in r0, the thread stands where it is stored
   left_stands : (v : ℕ) (last : Regs) (core : CoreState) → HasBases g r last → last.r0 ≡ v →
-      StandsAt g r (storing i.target v rest) j at_write last core
+      IsPlacedAt g r (storing i.target v rest) j at_write last core
   left_stands v last core bases' in_r0 =
       storing_stands g r rest at_write j parts.write (stand_back (code g r) pc parts.transfer parts.write all_stand) core unwatched
       (λ later other bases_then same.
-      subst (λ q. StandsAt g r rest j q later other) write_end (items_stand g r rest exits pc' j later other behind))
+      subst (λ q. IsPlacedAt g r rest j q later other) write_end (items_stand g r rest exits pc' j later other behind))
       i.target parts.writes v last bases' in_r0
 
   -- At the end of its way.
@@ -136,7 +136,7 @@ module _ (g : Setting) (r : Runner) (laid : IsLaidOut g r) (i : kernel.Input) (t
           bases' : HasBases g r last
           bases' = bases_scratched g r w.regs last (r0_alone w.regs clock) (bases_worked g r regs w.regs w.others bases)
 
-      clock_turn : Turn g r j q
+      clock_turn : NextStep g r j q
       clock_turn =
           transfer_turn g r at j (is_past q.core set) (storing i.target clock rest) None
           (step_is (passes when) e ∙ ap (λ b. only_if b (reads_clock s i (clock_of s))) (sym agrees)
@@ -149,7 +149,7 @@ module _ (g : Setting) (r : Runner) (laid : IsLaidOut g r) (i : kernel.Input) (t
 
   -- where the code leads, the turn is next
   turns : (w : Timing) → timing z.world.store i.time i.condition ≡ w → (y q : ThreadView) → outcome w y.core →
-      KeptParts (relied g r) mine r.thread y.core q.core → AtTransfer g r mine (kernel.input i) rest z q → Turn g r j q
+      KeptParts (relied g r) mine r.thread y.core q.core → AtTransfer g r mine (kernel.input i) rest z q → NextStep g r j q
   turns (passes when) e y q h kept at = clock_turn q at when e (h q.core kept)
   turns (fails kind pos) e y q h kept at = turn.errs (both_err g r at kind pos (h q.core kept) (step_is q at (fails kind pos) e))
 

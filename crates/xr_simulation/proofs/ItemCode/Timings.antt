@@ -21,7 +21,7 @@ use Rattle.xl_port.specs.Timings.{TimeIsLaid, port_set, time_nodes, timer_set, t
 use Rattle.xr_simulation.specs.Fits.{UsesCondition, UsesSome}
 use Rattle.xr_simulation.specs.Runners.{IsLaidOut, Setting, Runner, plan, relied}
 use Rattle.xr_simulation.specs.ThreadViews.{ThreadView}
-use Rattle.xr_simulation.specs.Turns.{HasBases, HoldsStore}
+use Rattle.xr_simulation.specs.NextStep.{HasBases, HoldsStore}
 use Rattle.xs_instr.specs.declared.state.Regs.{Regs}
 use Rattle.xr_simulation.proofs.ItemCode.Evaluations.{eval_still, nodes_are}
 use Rattle.xr_simulation.proofs.RelyGuarantee.Layouts.{laid_at}

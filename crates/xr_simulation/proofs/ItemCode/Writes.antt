@@ -27,8 +27,8 @@ use Rattle.xl_expr.proofs.Lists.{get_set_other}
 use Rattle.xr_simulation.specs.Fits.{ItemsFit, UsesAt}
 use Rattle.xr_simulation.specs.Runners.{HoldsPlaces, Setting, Runner, IsLaidOut, MayChange, home, plan, relied}
 use Rattle.xr_simulation.specs.ThreadViews.{ThreadView, Rely, running}
-use Rattle.xr_simulation.specs.Turns as turn
-use Rattle.xr_simulation.specs.Turns.{HasBases, Has, Goes, SameParts, StandsAt, Turn, is_watching}
+use Rattle.xr_simulation.specs.NextStep as turn
+use Rattle.xr_simulation.specs.NextStep.{HasBases, Has, Goes, SameParts, IsPlacedAt, NextStep, is_watching}
 use Rattle.xr_simulation.proofs.RelyGuarantee.Arrival.{Since, core_kept}
 use Rattle.xr_simulation.proofs.Image.Bases.{bases_worked}
 use Rattle.xr_simulation.proofs.ItemCode.Evaluations.{index_still, item_acts, value_errs, with_items}
@@ -76,7 +76,7 @@ module _ (g : Setting) (r : Runner) (laid : IsLaidOut g r) (item : Item) (place 
     (changed_first : by_item (change (variable_of place)) item ≡ true) (rest_fits : ItemsFit g r rest)
     (unwatched : is_watching rest ≡ false) (q : ThreadView)
     (behind : (regs' : Regs) (core' : CoreState) → HasBases g r regs' → SameParts g r.core rest q.core core' →
-    StandsAt g r rest j pc' regs' core') where
+    IsPlacedAt g r rest j pc' regs' core') where
   -- what its step is there
   abbrev pub Stores : World → Branch → (v : ℕ) → Type 0
   Stores w branch v =
@@ -132,13 +132,13 @@ module _ (g : Setting) (r : Runner) (laid : IsLaidOut g r) (item : Item) (place 
   pub store_turns : (stays : Res → Type 0) (z y : ThreadView) (regs : Regs) (v : ℕ) (i : Value) → HasBases g r regs → Rely g r y q →
       Since g r (IsApart r.stack) stays z q → q.hand ≡ None →
       (has : Has g r (item ∷ rest) q) → Stores q.world has.branch v → index_in z.world.store place ≡ i →
-      StoreOutcome (plan g r).vars (home g r) (relied g r) r.stack r.thread (running r.tie pc regs) z.core.words place v pc' i y.core → Turn g r j q
+      StoreOutcome (plan g r).vars (home g r) (relied g r) r.stack r.thread (running r.tie pc regs) z.core.words place v pc' i y.core → NextStep g r j q
   store_turns stays z y regs v i bases kept since no_hand has is is_index outcome = by i is_index outcome
     where
       index_is : (o : Value) → index_in z.world.store place ≡ o → index_in q.world.store place ≡ o
       index_is o e = index_still (plan g r).vars r.footprint.uses z.world.store q.world.store since.store place uses_place ∙ e
 
-      by : (i : Value) → index_in z.world.store place ≡ i → StoreOutcome (plan g r).vars (home g r) (relied g r) r.stack r.thread (running r.tie pc regs) z.core.words place v pc' i y.core → Turn g r j q
+      by : (i : Value) → index_in z.world.store place ≡ i → StoreOutcome (plan g r).vars (home g r) (relied g r) r.stack r.thread (running r.tie pc regs) z.core.words place v pc' i y.core → NextStep g r j q
       by (word i) f (address, at_address, writes) =
           let w = writes q.core (core_kept g r kept) in
           let there = address_seen g r laid z.core.words regs bases place i address at_address in

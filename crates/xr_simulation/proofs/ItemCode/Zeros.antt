@@ -18,8 +18,8 @@ use Rattle.xl_statements.specs.Pieces.{Exit}
 use Rattle.xr_simulation.specs.Fits.{IsChanged, ItemsFit}
 use Rattle.xr_simulation.specs.Runners.{Setting, Runner, IsLaidOut, home, relied}
 use Rattle.xr_simulation.specs.ThreadViews.{ThreadView, running}
-use Rattle.xr_simulation.specs.Turns as turn
-use Rattle.xr_simulation.specs.Turns.{Goes, Has, HasBases, ItemsFrom, Runs, StatementLeads, Turns, cost, first_changes, own_go}
+use Rattle.xr_simulation.specs.NextStep as turn
+use Rattle.xr_simulation.specs.NextStep.{Goes, Has, HasBases, ItemsFrom, Runs, StatementLeads, StableNextStep, cost, first_changes, own_go}
 use Rattle.xr_simulation.proofs.RelyGuarantee.Arrival.{Since, any_part, arrives, at_runs, core_kept, ports_since, since_kept}
 use Rattle.xr_simulation.proofs.Image.Bases.{bases_worked}
 use Rattle.xr_simulation.proofs.ItemCode.Evaluations.{item_acts, runs_with, with_items}
@@ -117,8 +117,8 @@ module _ (g : Setting) (r : Runner) (v : ℕ) (laid : IsLaidOut g r) (is : IsCha
 module _ (g : Setting) (r : Runner) where
   pub zero_leads : (v : ℕ) → StatementLeads g r (kernel.set_zero v)
   zero_leads v rest exits pc pc' j z regs laid code (is, counted) sided behind fits has sized here bases no_hand =
-      leads_more g r (Turns g r j) (2 * (k + 1) + 1) (cost g r) z few
-      (leads_as g r (λ y. AtLast y.core × Since g r (IsOutside (base g r v laid is) (k + 1)) any_part z y) (Turns g r j) (2 * (k + 1) + 1) z
+      leads_more g r (StableNextStep g r j) (2 * (k + 1) + 1) (cost g r) z few
+      (leads_as g r (λ y. AtLast y.core × Since g r (IsOutside (base g r v laid is) (k + 1)) any_part z y) (StableNextStep g r j) (2 * (k + 1) + 1) z
       (λ y h x kept. turn.goes_on (last_goes g r v laid is rest z k is_k exits j pc' regs bases no_hand behind fits has pc x
       (since_kept g r (IsOutside (base g r v laid is) (k + 1)) any_part h.1 kept) (h.0 x.core (core_kept g r kept))))
       (arrives g r (IsOutside (base g r v laid is) (k + 1)) (safe g r v laid is (k + 1) is_k) AtLast (2 * (k + 1) + 1) z (at_runs g r z pc regs here) way))

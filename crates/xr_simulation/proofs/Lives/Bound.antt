@@ -17,7 +17,7 @@ use Rattle.xl_par.specs.Acquired.{Acquired, IsAmong}
 use Rattle.xr_match.specs.Implements.{StepsAreBounded}
 use Rattle.xr_match.specs.Lives.{Watched, in_use, of_root, watched_start}
 use Rattle.xr_match.specs.Meanings.{of_kernel, root_among}
-use Rattle.xr_match.specs.Sources.{Told, actions_by, actions_of, told_start}
+use Rattle.xr_match.specs.Sources.{Counted, actions_by, actions_of, counted_start}
 use Rattle.xr_match.specs.Systems.{SomeIs}
 use Rattle.xr_simulation.specs.Images.{IsImageOf, IsRootRole}
 use Rattle.xr_simulation.specs.Living.{AreBornBelow, AreNamed, pars_of}
@@ -25,8 +25,8 @@ use Rattle.xr_simulation.specs.Parents.{Parent}
 use Rattle.xr_simulation.specs.Roles.{AcquiredFits, Role, Roles, empty, gives_back, got_by, opens, unused, used_by}
 use Rattle.xr_simulation.specs.Runners.{Setting, Runner}
 use Rattle.xr_simulation.specs.ThreadViews.{held_in, sync_in}
-use Rattle.xr_simulation.specs.Standing.{Stand, Standing, Stands, ThreadIs}
-use Rattle.xr_simulation.specs.Turns.{IsWaitingTied}
+use Rattle.xr_simulation.specs.MatchStates.{RunsBranch, MatchStates, ThreadRel, ThreadIs}
+use Rattle.xr_simulation.specs.NextStep.{IsWaitingTied}
 use Rattle.xr_simulation.proofs.Lives.Quiet.{IsNamedRole, all_named}
 
 -- the thread of a branch is in use, however the branch is
@@ -60,13 +60,13 @@ held_sync items hand u (opens h bs rest e is sum several none) m = by_sync h.syn
     by_sync None f = absurd (subst (λ l. IsAmong l u) (none f) (subst (λ o. IsAmong (held_in o) u) e m))
     by_sync (Some n) f = (n, ap sync_in e ∙ f)
 
-module _ (g : Setting) (may_rest : (core thread : ℕ) → Bool) (who : Roles) (w : Watched) (x : Told (of_kernel g.program)) (st : Standing g may_rest who w x) (c : ℕ) (a : CoreState) (at_c : slice_get w.machine.cores c ≡ Some a) where
+module _ (g : Setting) (may_rest : (core thread : ℕ) → Bool) (who : Roles) (w : Watched) (x : Counted (of_kernel g.program)) (st : MatchStates g may_rest who w x) (c : ℕ) (a : CoreState) (at_c : slice_get w.machine.cores c ≡ Some a) where
   -- how the thread of a runner stands
-  pub stand_of : (t : ℕ) (r : Runner) (hand : Option Acquired) → who c t ≡ used_by r hand → (branch : Branch) × (slice_get x.state.branches r.branch ≡ Some branch) × Stand g r (may_rest c t) hand a x.state (w.lives c t) x.actions branch
-  stand_of t r hand e = there (slice_get x.state.branches r.branch) refl (subst (Stands g (may_rest c t) a x.state (w.lives c t) x.actions) e (st.threads c t a at_c))
+  pub stand_of : (t : ℕ) (r : Runner) (hand : Option Acquired) → who c t ≡ used_by r hand → (branch : Branch) × (slice_get x.state.branches r.branch ≡ Some branch) × RunsBranch g r (may_rest c t) hand a x.state (w.lives c t) x.actions branch
+  stand_of t r hand e = there (slice_get x.state.branches r.branch) refl (subst (ThreadRel g (may_rest c t) a x.state (w.lives c t) x.actions) e (st.threads c t a at_c))
     where
-      there : (o : Option Branch) → slice_get x.state.branches r.branch ≡ o → SomeIs o (Stand g r (may_rest c t) hand a x.state (w.lives c t) x.actions) →
-          (branch : Branch) × (slice_get x.state.branches r.branch ≡ Some branch) × Stand g r (may_rest c t) hand a x.state (w.lives c t) x.actions branch
+      there : (o : Option Branch) → slice_get x.state.branches r.branch ≡ o → SomeIs o (RunsBranch g r (may_rest c t) hand a x.state (w.lives c t) x.actions) →
+          (branch : Branch) × (slice_get x.state.branches r.branch ≡ Some branch) × RunsBranch g r (may_rest c t) hand a x.state (w.lives c t) x.actions branch
       there None f h = absurd h
       there (Some branch) f h = (branch, f, h)
 
@@ -97,7 +97,7 @@ core_at [] c lt = absurd (omega arith)
 core_at (d ∷ cores) zero lt = (d, refl)
 core_at (d ∷ cores) (suc c) lt = core_at cores c (omega arith)
 
-module _ (g : Setting) (may_rest : (core thread : ℕ) → Bool) (who : Roles) (w : Watched) (x : Told (of_kernel g.program)) (st : Standing g may_rest who w x) (named : AreNamed g who w x) where
+module _ (g : Setting) (may_rest : (core thread : ℕ) → Bool) (who : Roles) (w : Watched) (x : Counted (of_kernel g.program)) (st : MatchStates g may_rest who w x) (named : AreNamed g who w x) where
   bounded_by : (c t : ℕ) (role : Role) → who c t ≡ role → (w.lives c t).steps ≤ kernel_bound g.program * (actions_of (of_kernel g.program) x (w.lives c t).family + 1)
   bounded_by c t unused e = named.over c t e
   bounded_by c t (got_by u) e = let none = (named.got c t u e).0 in omega (arith, none)
@@ -127,8 +127,8 @@ roots_born n number before sides [] = tt
 roots_born n number before sides (r ∷ rs) = (tt, roots_born n (number + 1) (r.begun.code ∷ before) sides rs)
 
 module _ (g : Setting) (who : Roles) (image : IsImageOf g who) where
-  abbrev told : Told (of_kernel g.program)
-  told = told_start (of_kernel g.program)
+  abbrev told : Counted (of_kernel g.program)
+  told = counted_start (of_kernel g.program)
 
   abbrev watched : Watched
   watched = watched_start g.image
@@ -150,7 +150,7 @@ module _ (g : Setting) (who : Roles) (image : IsImageOf g who) where
         ties = λ held n f sync opens. absurd (none-some held f);
       }
 
-  pub start_named : AreNamed g who (watched_start g.image) (told_start (of_kernel g.program))
+  pub start_named : AreNamed g who (watched_start g.image) (counted_start (of_kernel g.program))
   start_named =
       all_named g who watched told (λ c t. start_role c t (who c t) refl (image.roles c t))
       (roots_born (length told.state.branches) 0 [] (map no_side g.program.channels) (map kernel_root g.program.roots))

@@ -8,7 +8,7 @@ use Rattle.xs_instr.specs.Machine.{Machine}
 use Rattle.xl_par.specs.Acquired.{Acquired, with_sync, with_thread_got}
 use Rattle.xr_match.specs.Lives.{Family, Life, Watched, child_family, child_of, is_tied, life_after, of_child, tie_of, tying_of}
 use Rattle.xr_match.specs.Meanings.{of_kernel}
-use Rattle.xr_match.specs.Sources.{Told}
+use Rattle.xr_match.specs.Sources.{Counted}
 use Rattle.xr_simulation.specs.Living.{AreKidsOf, AreNamed, IsNamed, opened, opens_by, pars_of, some_more}
 use Rattle.xr_simulation.specs.Roles.{AreRoles, Roles, got_by, unused, used_by}
 use Rattle.xr_simulation.specs.Runners.{Setting, Runner}
@@ -58,7 +58,7 @@ by_place c t c' t' P here there =
     (λ (ne : c' ≢ c). there (λ h. ne h.0))
     (cases_eq c' c)
 
-module _ (g : Setting) (who who' : Roles) (w : Watched) (m' : Machine) (x x' : Told (of_kernel g.program)) (roles : AreRoles g who) (named : AreNamed g who w x) (longer : Lengthens g x x') (pars : (f : ℕ) → pars_of f x'.state.branches ≡ pars_of f x.state.branches) (c t : ℕ) (a b : CoreState) (at_a : slice_get w.machine.cores c ≡ Some a) (at_b : slice_get m'.cores c ≡ Some b) (r : Runner) (h : Acquired) (runs : who c t ≡ used_by r (Some h)) (n : ℕ) where
+module _ (g : Setting) (who who' : Roles) (w : Watched) (m' : Machine) (x x' : Counted (of_kernel g.program)) (roles : AreRoles g who) (named : AreNamed g who w x) (longer : Lengthens g x x') (pars : (f : ℕ) → pars_of f x'.state.branches ≡ pars_of f x.state.branches) (c t : ℕ) (a b : CoreState) (at_a : slice_get w.machine.cores c ≡ Some a) (at_b : slice_get m'.cores c ≡ Some b) (r : Runner) (h : Acquired) (runs : who c t ≡ used_by r (Some h)) (n : ℕ) where
   -- the lives behind the step
   abbrev w' : Watched
   w' = record { machine = m'; lives = life_after w m' c t }

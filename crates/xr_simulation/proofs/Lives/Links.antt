@@ -18,13 +18,13 @@ use Rattle.xl_par.specs.Acquired.{Acquired, IsAmong, with_sync, with_thread_got}
 use Rattle.xl_ends.specs.Ends.{Sides}
 use Rattle.xr_match.specs.Lives.{Watched, life_after}
 use Rattle.xr_match.specs.Meanings.{of_kernel}
-use Rattle.xr_match.specs.Sources.{Told}
+use Rattle.xr_match.specs.Sources.{Counted}
 use Rattle.xr_simulation.specs.Living.{AreNamed}
 use Rattle.xr_simulation.specs.Parents.{Parent}
 use Rattle.xr_simulation.specs.Roles.{IsOnce, Role, Roles, got_by, unused, used_by}
 use Rattle.xr_simulation.specs.Runners.{Setting, Runner}
 use Rattle.xr_simulation.specs.ThreadViews.{SameUse, ThreadView, giving_back}
-use Rattle.xr_simulation.specs.Standing.{Standing}
+use Rattle.xr_simulation.specs.MatchStates.{MatchStates}
 use Rattle.xr_simulation.proofs.Lives.Quiet.{HandStays}
 use Rattle.xr_simulation.proofs.Lives.ParBegins.{AreBegun}
 use Rattle.xr_simulation.proofs.Lives.Bound.{stand_of}
@@ -43,24 +43,24 @@ use Rattle.xr_simulation.proofs.Relation.Seats.{role_cases, role_here, with_role
 use Rattle.xr_simulation.proofs.Relation.Lasting.{told_by}
 
 -- no family has done less
-pub told_not_less : (g : Setting) (x : Told (of_kernel g.program)) (piece : List Action) (y : World) (f : ℕ) → x.actions f ≤ (told_by g.program g.stimulus x piece y).actions f
+pub told_not_less : (g : Setting) (x : Counted (of_kernel g.program)) (piece : List Action) (y : World) (f : ℕ) → x.actions f ≤ (told_by g.program g.stimulus x piece y).actions f
 told_not_less g x piece y f = omega arith
 
 -- a piece that changes no branch, or one, of which the birth is the same
-pub told_same : (g : Setting) (x : Told (of_kernel g.program)) (piece : List Action) (y : World) → y.branches ≡ x.state.branches → Goes g x (told_by g.program g.stimulus x piece y)
+pub told_same : (g : Setting) (x : Counted (of_kernel g.program)) (piece : List Action) (y : World) → y.branches ≡ x.state.branches → Goes g x (told_by g.program g.stimulus x piece y)
 told_same g x piece y same = goes_on g x (told_by g.program g.stimulus x piece y) (told_not_less g x piece y) (subst (λ l. Grown x.state.branches l []) (sym same) (grown_same x.state.branches))
 
-pub told_one : (g : Setting) (x : Told (of_kernel g.program)) (piece : List Action) (y : World) (n : ℕ) (old new : Branch) → slice_get x.state.branches n ≡ Some old → new.birth ≡ old.birth → y.branches ≡ slice_set x.state.branches n new → Goes g x (told_by g.program g.stimulus x piece y)
+pub told_one : (g : Setting) (x : Counted (of_kernel g.program)) (piece : List Action) (y : World) (n : ℕ) (old new : Branch) → slice_get x.state.branches n ≡ Some old → new.birth ≡ old.birth → y.branches ≡ slice_set x.state.branches n new → Goes g x (told_by g.program g.stimulus x piece y)
 told_one g x piece y n old new known birth set = goes_on g x (told_by g.program g.stimulus x piece y) (told_not_less g x piece y) (grown_one x.state.branches y.branches n old new known birth set)
 
 -- two branches change
-pub told_two : (g : Setting) (x : Told (of_kernel g.program)) (piece : List Action) (y : World) (n m : ℕ) (old new old' new' : Branch) → slice_get x.state.branches n ≡ Some old → new.birth ≡ old.birth → slice_get x.state.branches m ≡ Some old' → new'.birth ≡ old'.birth → m ≢ n →
+pub told_two : (g : Setting) (x : Counted (of_kernel g.program)) (piece : List Action) (y : World) (n m : ℕ) (old new old' new' : Branch) → slice_get x.state.branches n ≡ Some old → new.birth ≡ old.birth → slice_get x.state.branches m ≡ Some old' → new'.birth ≡ old'.birth → m ≢ n →
     y.branches ≡ slice_set (slice_set x.state.branches n new) m new' → Goes g x (told_by g.program g.stimulus x piece y)
 told_two g x piece y n m old new old' new' known birth known' birth' ne set =
     goes_on g x (told_by g.program g.stimulus x piece y) (told_not_less g x piece y) (grown_two x.state.branches y.branches n m old new old' new' known birth known' birth' ne set)
 
 -- a `par` of one branch
-pub told_under : (g : Setting) (x : Told (of_kernel g.program)) (piece : List Action) (y : World) (n family : ℕ) (old new child : Branch) → slice_get x.state.branches n ≡ Some old → new.birth ≡ old.birth → child.birth ≡ Some (record { family = family; index = 0; among = 1 }) → family < length x.state.branches →
+pub told_under : (g : Setting) (x : Counted (of_kernel g.program)) (piece : List Action) (y : World) (n family : ℕ) (old new child : Branch) → slice_get x.state.branches n ≡ Some old → new.birth ≡ old.birth → child.birth ≡ Some (record { family = family; index = 0; among = 1 }) → family < length x.state.branches →
     y.branches ≡ slice_set x.state.branches n new ++ child ∷ [] → Goes g x (told_by g.program g.stimulus x piece y)
 told_under g x piece y n family old new child known birth born there set =
     goes_into g x (told_by g.program g.stimulus x piece y) family (child ∷ []) (told_not_less g x piece y) (grown_more x.state.branches y.branches (child ∷ []) n old new known birth set) (born, refl) there
@@ -80,9 +80,9 @@ begun_of_index who c from (v ∷ vs) once by =
           (λ u i e. let within = (index_within vs u i e).0 in by u i (index_further v u vs (λ same. once.0 (subst (IsAmong vs) same within)) ∙ e)),
     )
 
-module _ (g : Setting) (may_rest : (core thread : ℕ) → Bool) (who : Roles) (w : Watched) (x : Told (of_kernel g.program)) (st : Standing g may_rest who w x) (named : AreNamed g who w x) where
+module _ (g : Setting) (may_rest : (core thread : ℕ) → Bool) (who : Roles) (w : Watched) (x : Counted (of_kernel g.program)) (st : MatchStates g may_rest who w x) (named : AreNamed g who w x) where
   -- A piece of the program's run alone, by which one runner goes on.
-  pub settles_linked : (c t : ℕ) (r s : Runner) (hand hand' : Option Acquired) → who c t ≡ used_by r hand → s.family ≡ r.family → HandStays hand hand' → (x' : Told (of_kernel g.program)) → Goes g x x' → AreNamed g (with_role who c t (used_by s hand')) w x'
+  pub settles_linked : (c t : ℕ) (r s : Runner) (hand hand' : Option Acquired) → who c t ≡ used_by r hand → s.family ≡ r.family → HandStays hand hand' → (x' : Counted (of_kernel g.program)) → Goes g x x' → AreNamed g (with_role who c t (used_by s hand')) w x'
   settles_linked c t r s hand hand' runs_r family stays x' goes =
       settled_named g who (with_role who c t (used_by s hand')) w w x x' st.roles named goes.longer (λ d u. refl) goes.pars
       (λ d u.
@@ -93,7 +93,7 @@ module _ (g : Setting) (may_rest : (core thread : ℕ) → Bool) (who : Roles) (
       (role_cases who c t (used_by s hand') d u))
 
   -- A tick or a move, or another machine with the same lives: the roles are the same.
-  pub alike_linked : (w' : Watched) (x' : Told (of_kernel g.program)) → Goes g x x' → ((c t : ℕ) → w'.lives c t ≡ w.lives c t) → AreNamed g who w' x'
+  pub alike_linked : (w' : Watched) (x' : Counted (of_kernel g.program)) → Goes g x x' → ((c t : ℕ) → w'.lives c t ≡ w.lives c t) → AreNamed g who w' x'
   alike_linked w' x' goes lives = settled_named g who who w w' x x' st.roles named goes.longer lives goes.pars (λ d u. role_same (who d u))
 
   module _ (m' : Machine) (c t : ℕ) (a b : CoreState) (at_a : slice_get w.machine.cores c ≡ Some a) (at_b : slice_get m'.cores c ≡ Some b) (r : Runner) where
@@ -101,7 +101,7 @@ module _ (g : Setting) (may_rest : (core thread : ℕ) → Bool) (who : Roles) (
     w' = record { machine = m'; lives = life_after w m' c t }
 
     -- The thread's own instruction, a trap, or a tied thread that waits.
-    pub own_linked : (s : Runner) → who c t ≡ used_by r None → s.family ≡ r.family → (x' : Told (of_kernel g.program)) → Goes g x x' → b.syncs ≡ a.syncs → ((u : ℕ) → u ≢ t → slice_get b.threads u ≡ slice_get a.threads u) → AreNamed g (with_role who c t (used_by s None)) w' x'
+    pub own_linked : (s : Runner) → who c t ≡ used_by r None → s.family ≡ r.family → (x' : Counted (of_kernel g.program)) → Goes g x x' → b.syncs ≡ a.syncs → ((u : ℕ) → u ≢ t → slice_get b.threads u ≡ slice_get a.threads u) → AreNamed g (with_role who c t (used_by s None)) w' x'
     own_linked s runs_r family x' goes syncs threads =
         let role = used_by s None in
         goes_named g may_rest who (with_role who c t role) w m' x x' st named c t a b at_a at_b r None runs_r goes syncs threads s None (role_here who c t role) family (inl refl) (with_role_others who c t role)
@@ -123,14 +123,14 @@ module _ (g : Setting) (may_rest : (core thread : ℕ) → Bool) (who : Roles) (
         (with_role_others who c t unused)
 
     -- A synchroniser is given back.
-    pub resumes_linked : (s : Runner) (n : ℕ) → who c t ≡ used_by r (giving_back n) → s.family ≡ r.family → (x' : Told (of_kernel g.program)) → Goes g x x' → slice_get a.syncs n ≡ Some true → b.syncs ≡ slice_set a.syncs n false → ((u : ℕ) → u ≢ t → slice_get b.threads u ≡ slice_get a.threads u) →
+    pub resumes_linked : (s : Runner) (n : ℕ) → who c t ≡ used_by r (giving_back n) → s.family ≡ r.family → (x' : Counted (of_kernel g.program)) → Goes g x x' → slice_get a.syncs n ≡ Some true → b.syncs ≡ slice_set a.syncs n false → ((u : ℕ) → u ≢ t → slice_get b.threads u ≡ slice_get a.threads u) →
         AreNamed g (with_role who c t (used_by s None)) w' x'
     resumes_linked s n runs_r family x' goes taken syncs threads =
         let role = used_by s None in
         resumed_named g may_rest who (with_role who c t role) w m' x x' st named c t a b at_a at_b r (giving_back n) runs_r n goes taken syncs threads s None (role_here who c t role) family (gives_back_stays n) (with_role_others who c t role)
 
     -- The branches of a `par` are joined.
-    pub joins_linked : (runs_r : who c t ≡ used_by r None) (p : Parent) (ps : List Parent) (chain : r.parents ≡ p ∷ ps) (n : ℕ) (sync : p.sync ≡ Some n) (own_thread : Thread) → (x' : Told (of_kernel g.program)) → Goes g x x' → b.syncs ≡ a.syncs → b.threads ≡ slice_set (all_joined a.threads n) t own_thread →
+    pub joins_linked : (runs_r : who c t ≡ used_by r None) (p : Parent) (ps : List Parent) (chain : r.parents ≡ p ∷ ps) (n : ℕ) (sync : p.sync ≡ Some n) (own_thread : Thread) → (x' : Counted (of_kernel g.program)) → Goes g x x' → b.syncs ≡ a.syncs → b.threads ≡ slice_set (all_joined a.threads n) t own_thread →
         AreNamed g (joins g who c t st.roles r runs_r p ps chain n sync) w' x'
     joins_linked runs_r p ps chain n sync own_thread x' goes syncs threads =
         let who' = joins g who c t st.roles r runs_r p ps chain n sync in
@@ -172,7 +172,7 @@ module _ (g : Setting) (may_rest : (core thread : ℕ) → Bool) (who : Roles) (
 
   -- A silent step.
   module _ (m' : Machine) (c t : ℕ) (y z : ThreadView) (at_a : slice_get w.machine.cores c ≡ Some y.core)
-      (at_b : slice_get m'.cores c ≡ Some z.core) (r : Runner) (x' : Told (of_kernel g.program)) (goes : Goes g x x') where
+      (at_b : slice_get m'.cores c ≡ Some z.core) (r : Runner) (x' : Counted (of_kernel g.program)) (goes : Goes g x x') where
     abbrev w'' : Watched
     w'' = record { machine = m'; lives = life_after w m' c t }
 

@@ -13,13 +13,13 @@ use Rattle.xc_meaning.specs.States.Worlds.{World}
 use Rattle.xl_par.specs.Acquired.{Acquired, IsAmong}
 use Rattle.xr_match.specs.Lives.{Watched, in_use, life_after}
 use Rattle.xr_match.specs.Meanings.{of_kernel}
-use Rattle.xr_match.specs.Sources.{Told}
+use Rattle.xr_match.specs.Sources.{Counted}
 use Rattle.xr_simulation.specs.Living.{AreNamed}
 use Rattle.xr_simulation.specs.Parents.{Parent}
 use Rattle.xr_simulation.specs.Roles.{ParentsWait, Roles, got_by, outermost, unused, used_by}
 use Rattle.xr_simulation.specs.Runners.{Setting, Runner}
 use Rattle.xr_simulation.specs.ThreadViews.{giving_back}
-use Rattle.xr_simulation.specs.Standing.{Standing}
+use Rattle.xr_simulation.specs.MatchStates.{MatchStates}
 use Rattle.xr_simulation.proofs.Lives.Quiet.{HandStays}
 use Rattle.xr_simulation.proofs.Lives.ParBegins.{AreBegun, begins_named}
 use Rattle.xr_simulation.proofs.Lives.Bound.{in_use_now, stand_of, steps_within}
@@ -45,7 +45,7 @@ gives_back_stays n = inr (refl, refl)
 pub joins_stays : (n : ℕ) → HandStays None (giving_back n)
 joins_stays n = inr (refl, refl)
 
-module _ (g : Setting) (may_rest : (core thread : ℕ) → Bool) (who who' : Roles) (w : Watched) (m' : Machine) (x x' : Told (of_kernel g.program)) (st : Standing g may_rest who w x) (named : AreNamed g who w x) (c t : ℕ) (a b : CoreState) (at_a : slice_get w.machine.cores c ≡ Some a) (at_b : slice_get m'.cores c ≡ Some b) (r : Runner) (hand : Option Acquired) (runs : who c t ≡ used_by r hand) where
+module _ (g : Setting) (may_rest : (core thread : ℕ) → Bool) (who who' : Roles) (w : Watched) (m' : Machine) (x x' : Counted (of_kernel g.program)) (st : MatchStates g may_rest who w x) (named : AreNamed g who w x) (c t : ℕ) (a b : CoreState) (at_a : slice_get w.machine.cores c ≡ Some a) (at_b : slice_get m'.cores c ≡ Some b) (r : Runner) (hand : Option Acquired) (runs : who c t ≡ used_by r hand) where
   abbrev w' : Watched
   w' = record { machine = m'; lives = life_after w m' c t }
 
@@ -99,7 +99,7 @@ module _ (g : Setting) (may_rest : (core thread : ℕ) → Bool) (who who' : Rol
       (others c' t' ne))
 
 -- a runner's family is there
-pub family_there : (g : Setting) (may_rest : (core thread : ℕ) → Bool) (who : Roles) (w : Watched) (x : Told (of_kernel g.program)) → Standing g may_rest who w x → (c t : ℕ) (a : CoreState) → slice_get w.machine.cores c ≡ Some a → (r : Runner) (hand : Option Acquired) →
+pub family_there : (g : Setting) (may_rest : (core thread : ℕ) → Bool) (who : Roles) (w : Watched) (x : Counted (of_kernel g.program)) → MatchStates g may_rest who w x → (c t : ℕ) (a : CoreState) → slice_get w.machine.cores c ≡ Some a → (r : Runner) (hand : Option Acquired) →
     who c t ≡ used_by r hand → r.family < length x.state.branches
 family_there g may_rest who w x st c t a at_a r hand runs =
     let stand = stand_of g may_rest who w x st c a at_a t r hand runs in
@@ -109,7 +109,7 @@ family_there g may_rest who w x st c t a at_a r hand runs =
     omega (arith, there, started)
 
 -- A `par` of several branches begins.
-module _ (g : Setting) (may_rest : (core thread : ℕ) → Bool) (who who' : Roles) (w : Watched) (m' : Machine) (x x' : Told (of_kernel g.program)) (st : Standing g may_rest who w x) (named : AreNamed g who w x) (c t : ℕ) (a b : CoreState) (at_a : slice_get w.machine.cores c ≡ Some a) (at_b : slice_get m'.cores c ≡ Some b) (r : Runner) (h : Acquired) (runs : who c t ≡ used_by r (Some h)) (n : ℕ) (is : h.sync ≡ Some n) where
+module _ (g : Setting) (may_rest : (core thread : ℕ) → Bool) (who who' : Roles) (w : Watched) (m' : Machine) (x x' : Counted (of_kernel g.program)) (st : MatchStates g may_rest who w x) (named : AreNamed g who w x) (c t : ℕ) (a b : CoreState) (at_a : slice_get w.machine.cores c ≡ Some a) (at_b : slice_get m'.cores c ≡ Some b) (r : Runner) (h : Acquired) (runs : who c t ≡ used_by r (Some h)) (n : ℕ) (is : h.sync ≡ Some n) where
   pub started_named : (own_thread : Thread) → b.syncs ≡ a.syncs → b.threads ≡ slice_set (all_started a.threads n) t own_thread → ((u : ℕ) (i : Thread) → slice_get a.threads u ≡ Some i → is_tied i n ≡ true → IsAmong h.threads u) →
       ((f : ℕ) → x.actions f ≤ x'.actions f) → (more : List Branch) (count : ℕ) → Grown x.state.branches x'.state.branches more → AreBornOf r.family count 0 more → 2 ≤ count → 1 + length h.threads ≡ count →
       (r' : Runner) → who' c t ≡ used_by r' None → r'.family ≡ r.family → AreBegun who' c (length x.state.branches) h.threads →

@@ -9,7 +9,7 @@ use Rattle.xc_meaning.specs.Counts.KernelCounts.{kernel_bound}
 use Rattle.xl_par.specs.Acquired.{Acquired}
 use Rattle.xr_match.specs.Lives.{Life, Watched, life_after}
 use Rattle.xr_match.specs.Meanings.{of_kernel}
-use Rattle.xr_match.specs.Sources.{Told, actions_of}
+use Rattle.xr_match.specs.Sources.{Counted, actions_of}
 use Rattle.xr_simulation.specs.Living.{AreNamed, IsNamed, pars_of}
 use Rattle.xr_simulation.specs.Roles.{AreRoles, Role, Roles, got_by, unused, used_by}
 use Rattle.xr_simulation.specs.Runners.{Setting, Runner}
@@ -17,7 +17,7 @@ use Rattle.xr_simulation.proofs.Lives.Quiet.{GetsNothing, HandStays, IsLike, IsN
 use Rattle.xr_simulation.proofs.Lives.Names.{other_is, own_family, own_pars_same, own_steps, own_tying_same}
 
 -- a life that is over: its family's bound stands
-pub over_from : (g : Setting) (x x' : Told (of_kernel g.program)) (longer : Lengthens g x x') (lives : ℕ → Life) (life life' : Life) (r : Runner) (hand : Option Acquired) → IsNamed g lives life x r hand → life'.family ≡ life.family →
+pub over_from : (g : Setting) (x x' : Counted (of_kernel g.program)) (longer : Lengthens g x x') (lives : ℕ → Life) (life life' : Life) (r : Runner) (hand : Option Acquired) → IsNamed g lives life x r hand → life'.family ≡ life.family →
     life'.steps ≤ kernel_bound g.program * (x'.actions r.family + 1) → IsNamedRole g lives life' x' unused
 over_from g x x' longer lives life life' r hand h same bound =
     let e : actions_of (of_kernel g.program) x' life'.family ≡ x'.actions r.family =
@@ -42,7 +42,7 @@ got_not_used who c t c' u v r hand runs got same =
     let both : got_by v ≡ used_by r hand = sym got ∙ ap (λ k. who k u) same.0 ∙ ap (who c) same.1 ∙ runs in cc
 
 -- Where the lives are the same, as in a piece of the program's run alone, a tick or a move.
-module _ (g : Setting) (who who' : Roles) (w w' : Watched) (x x' : Told (of_kernel g.program)) (roles : AreRoles g who) (named : AreNamed g who w x) (longer : Lengthens g x x') where
+module _ (g : Setting) (who who' : Roles) (w w' : Watched) (x x' : Counted (of_kernel g.program)) (roles : AreRoles g who) (named : AreNamed g who w x) (longer : Lengthens g x x') where
   role_settled : (lives : (c t : ℕ) → w'.lives c t ≡ w.lives c t) (pars : (f : ℕ) → pars_of f x'.state.branches ≡ pars_of f x.state.branches) (c t : ℕ) (role role' : Role) → who c t ≡ role → IsSameRole role role' →
       IsNamedRole g (w'.lives c) (w'.lives c t) x' role'
   role_settled lives pars c t unused unused e h = other_named g who who' w w' x x' roles named longer c t (lives c t) (λ u v m. lives c u) (λ r hand f. pars r.family) unused e
@@ -62,7 +62,7 @@ module _ (g : Setting) (who who' : Roles) (w w' : Watched) (x x' : Told (of_kern
       all_named g who' w' x' (λ c t. role_settled lives pars c t (who c t) (who' c t) refl (same c t)) (longer.births named.births)
 
 -- A thread that ran a branch is unused, and its life is over.
-pub record EndsAt (g : Setting) (who who' : Roles) (w : Watched) (x : Told (of_kernel g.program)) (c t : ℕ) : Type 0 where
+pub record EndsAt (g : Setting) (who who' : Roles) (w : Watched) (x : Counted (of_kernel g.program)) (c t : ℕ) : Type 0 where
   pub runner : Runner
   pub hand : Option Acquired
   pub was : who c t ≡ used_by runner hand
@@ -77,7 +77,7 @@ pub record GoesOn (who' : Roles) (c t : ℕ) (r : Runner) (hand : Option Acquire
   pub family : runner.family ≡ r.family
   pub stays : HandStays hand left_in_hand
 
-module _ (g : Setting) (who who' : Roles) (w : Watched) (m' : Machine) (x x' : Told (of_kernel g.program)) (roles : AreRoles g who) (named : AreNamed g who w x) (longer : Lengthens g x x') (c t : ℕ) (a b : CoreState) (at_a : slice_get w.machine.cores c ≡ Some a) (at_b : slice_get m'.cores c ≡ Some b) (r : Runner) (hand : Option Acquired) (runs : who c t ≡ used_by r hand) (nothing : GetsNothing a b) (pars : (f : ℕ) → pars_of f x'.state.branches ≡ pars_of f x.state.branches) where
+module _ (g : Setting) (who who' : Roles) (w : Watched) (m' : Machine) (x x' : Counted (of_kernel g.program)) (roles : AreRoles g who) (named : AreNamed g who w x) (longer : Lengthens g x x') (c t : ℕ) (a b : CoreState) (at_a : slice_get w.machine.cores c ≡ Some a) (at_b : slice_get m'.cores c ≡ Some b) (r : Runner) (hand : Option Acquired) (runs : who c t ≡ used_by r hand) (nothing : GetsNothing a b) (pars : (f : ℕ) → pars_of f x'.state.branches ≡ pars_of f x.state.branches) where
   -- the lives behind the step
   abbrev w' : Watched
   w' = record { machine = m'; lives = life_after w m' c t }

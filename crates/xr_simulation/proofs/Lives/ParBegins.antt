@@ -10,7 +10,7 @@ use Rattle.xc_meaning.specs.States.Branches.{Branch}
 use Rattle.xl_par.specs.Acquired.{Acquired, IsAmong}
 use Rattle.xr_match.specs.Lives.{Life, Watched, life_after, of_child}
 use Rattle.xr_match.specs.Meanings.{family_in, of_kernel}
-use Rattle.xr_match.specs.Sources.{Told}
+use Rattle.xr_match.specs.Sources.{Counted}
 use Rattle.xr_simulation.specs.Living.{AreKidsOf, AreNamed, IsNamed, opened, pars_of}
 use Rattle.xr_simulation.specs.Parents.{Parent, branches_of}
 use Rattle.xr_simulation.specs.Roles.{AreRoles, Roles, got_by, outermost, own_branches, used_by}
@@ -47,7 +47,7 @@ abbrev pub AreBegun : Roles → (core from : ℕ) → (threads : List ℕ) → T
 AreBegun who c from [] = Unit {0}
 AreBegun who c from (u ∷ us) = ((s : Runner) × (who c u ≡ used_by s None) × (s.family ≡ from + (length us + 1))) × AreBegun who c from us
 
-module _ (g : Setting) (who who' : Roles) (w : Watched) (m' : Machine) (x x' : Told (of_kernel g.program)) (roles : AreRoles g who) (named : AreNamed g who w x) (c t : ℕ) (a b : CoreState) (at_a : slice_get w.machine.cores c ≡ Some a) (at_b : slice_get m'.cores c ≡ Some b) (r : Runner) (h : Acquired) (runs : who c t ≡ used_by r (Some h)) (nothing : GetsNothing a b) (actions : (f : ℕ) → x.actions f ≤ x'.actions f) (more : List Branch) (count n : ℕ) (grown : Grown x.state.branches x'.state.branches more) (born : AreBornOf r.family count 0 more) (there : r.family < length x.state.branches) (is : h.sync ≡ Some n) (several : 2 ≤ count) (all : 1 + length h.threads ≡ count) where
+module _ (g : Setting) (who who' : Roles) (w : Watched) (m' : Machine) (x x' : Counted (of_kernel g.program)) (roles : AreRoles g who) (named : AreNamed g who w x) (c t : ℕ) (a b : CoreState) (at_a : slice_get w.machine.cores c ≡ Some a) (at_b : slice_get m'.cores c ≡ Some b) (r : Runner) (h : Acquired) (runs : who c t ≡ used_by r (Some h)) (nothing : GetsNothing a b) (actions : (f : ℕ) → x.actions f ≤ x'.actions f) (more : List Branch) (count n : ℕ) (grown : Grown x.state.branches x'.state.branches more) (born : AreBornOf r.family count 0 more) (there : r.family < length x.state.branches) (is : h.sync ≡ Some n) (several : 2 ≤ count) (all : 1 + length h.threads ≡ count) where
   -- the lives behind the step
   abbrev w' : Watched
   w' = record { machine = m'; lives = life_after w m' c t }

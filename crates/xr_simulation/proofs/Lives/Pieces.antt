@@ -4,7 +4,7 @@ use Rattle.std.specs.Prelude.{slice_get, slice_set}
 use Rattle.xc_meaning.specs.States.Branches.{Branch}
 use Rattle.xl_expr.proofs.Lists.{get_set_other}
 use Rattle.xr_match.specs.Meanings.{of_kernel}
-use Rattle.xr_match.specs.Sources.{Told}
+use Rattle.xr_match.specs.Sources.{Counted}
 use Rattle.xr_simulation.specs.Living.{pars_of}
 use Rattle.xr_simulation.specs.Runners.{Setting}
 use Rattle.xr_simulation.proofs.Lives.Quiet.{Lengthens, lengthens_by, pars_still}
@@ -33,19 +33,19 @@ grown_two bs bs' n m old new old' new' h birth h' birth' ne e =
     grown_then bs (slice_set bs n new) bs' [] (grown_set bs n old new h birth) (grown_one (slice_set bs n new) bs' m old' new' there birth' e)
 
 -- A piece of the program's run in which no family makes a `par` of two branches or more.
-pub record Goes (g : Setting) (x x' : Told (of_kernel g.program)) : Type 0 where
+pub record Goes (g : Setting) (x x' : Counted (of_kernel g.program)) : Type 0 where
   pub longer : Lengthens g x x'
   pub pars : (f : ℕ) → pars_of f x'.state.branches ≡ pars_of f x.state.branches
 
 -- no branch is added
-pub goes_on : (g : Setting) (x x' : Told (of_kernel g.program)) → ((f : ℕ) → x.actions f ≤ x'.actions f) → Grown x.state.branches x'.state.branches [] → Goes g x x'
+pub goes_on : (g : Setting) (x x' : Counted (of_kernel g.program)) → ((f : ℕ) → x.actions f ≤ x'.actions f) → Grown x.state.branches x'.state.branches [] → Goes g x x'
 goes_on g x x' actions grown = record {
   longer = lengthens_by g x x' [] actions grown tt;
   pars = λ f. pars_still f x.state.branches x'.state.branches [] grown refl;
 }
 
 -- a `par` of one branch
-pub goes_into : (g : Setting) (x x' : Told (of_kernel g.program)) (family : ℕ) (more : List Branch) → ((f : ℕ) → x.actions f ≤ x'.actions f) → Grown x.state.branches x'.state.branches more → AreBornOf family 1 0 more → family < length x.state.branches → Goes g x x'
+pub goes_into : (g : Setting) (x x' : Counted (of_kernel g.program)) (family : ℕ) (more : List Branch) → ((f : ℕ) → x.actions f ≤ x'.actions f) → Grown x.state.branches x'.state.branches more → AreBornOf family 1 0 more → family < length x.state.branches → Goes g x x'
 goes_into g x x' family more actions grown born there = record {
   longer = lengthens_by g x x' more actions grown (born_of_below (length x.state.branches) family 1 0 more there born);
   pars = λ f. pars_still f x.state.branches x'.state.branches more grown (born_of_one family f more born);

@@ -7,7 +7,7 @@ use Rattle.xc_meaning.specs.States.Branches.{Branch}
 use Rattle.xl_par.specs.Acquired.{Acquired, IsAmong}
 use Rattle.xr_match.specs.Lives.{Family, Life, Watched}
 use Rattle.xr_match.specs.Meanings.{family_in, of_kernel}
-use Rattle.xr_match.specs.Sources.{Told, actions_by, actions_of}
+use Rattle.xr_match.specs.Sources.{Counted, actions_by, actions_of}
 use Rattle.xr_simulation.specs.Living.{AreBornBelow, AreKidsOf, AreNamed, IsNamed, opened, pars_of}
 use Rattle.xr_simulation.specs.Roles.{AreRoles, Role, Roles, got_by, unused, used_by}
 use Rattle.xr_simulation.specs.Runners.{Setting, Runner}
@@ -16,17 +16,17 @@ use Rattle.xr_simulation.proofs.Lives.Families.{Grown, born_grown, born_more, gr
 use Rattle.xr_simulation.proofs.Lives.Names.{sync_got, thread_got}
 
 -- what is so of a thread's life, by its role
-abbrev pub IsNamedRole : (g : Setting) → (lives : ℕ → Life) → Life → Told (of_kernel g.program) → Role → Type 0
+abbrev pub IsNamedRole : (g : Setting) → (lives : ℕ → Life) → Life → Counted (of_kernel g.program) → Role → Type 0
 IsNamedRole g lives life x unused = life.steps ≤ kernel_bound g.program * (actions_of (of_kernel g.program) x life.family + 1)
 IsNamedRole g lives life x (got_by t) = (life.steps ≡ 0) × (life.pars ≡ 0)
 IsNamedRole g lives life x (used_by r hand) = IsNamed g lives life x r hand
 
-pub role_named : (g : Setting) (who : Roles) (w : Watched) (x : Told (of_kernel g.program)) → AreNamed g who w x → (c t : ℕ) (role : Role) → who c t ≡ role → IsNamedRole g (w.lives c) (w.lives c t) x role
+pub role_named : (g : Setting) (who : Roles) (w : Watched) (x : Counted (of_kernel g.program)) → AreNamed g who w x → (c t : ℕ) (role : Role) → who c t ≡ role → IsNamedRole g (w.lives c) (w.lives c t) x role
 role_named g who w x named c t unused e = named.over c t e
 role_named g who w x named c t (got_by u) e = named.got c t u e
 role_named g who w x named c t (used_by r hand) e = named.named c t r hand e
 
-pub all_named : (g : Setting) (who : Roles) (w : Watched) (x : Told (of_kernel g.program)) → ((c t : ℕ) → IsNamedRole g (w.lives c) (w.lives c t) x (who c t)) → AreBornBelow (length x.state.branches) x.state.branches → AreNamed g who w x
+pub all_named : (g : Setting) (who : Roles) (w : Watched) (x : Counted (of_kernel g.program)) → ((c t : ℕ) → IsNamedRole g (w.lives c) (w.lives c t) x (who c t)) → AreBornBelow (length x.state.branches) x.state.branches → AreNamed g who w x
 all_named g who w x all births = record {
   named = λ c t r hand e. subst (IsNamedRole g (w.lives c) (w.lives c t) x) e (all c t);
   got = λ c u t e. subst (IsNamedRole g (w.lives c) (w.lives c u) x) e (all c u);
@@ -35,13 +35,13 @@ all_named g who w x all births = record {
 }
 
 -- The families that are there keep their numbers, and do no less; and a branch's maker still stands before it.
-pub record Lengthens (g : Setting) (x x' : Told (of_kernel g.program)) : Type 0 where
+pub record Lengthens (g : Setting) (x x' : Counted (of_kernel g.program)) : Type 0 where
   pub actions : (f : ℕ) → x.actions f ≤ x'.actions f
   pub names : (name : Family) (f : ℕ) → family_in g.program x.state name ≡ Some f → family_in g.program x'.state name ≡ Some f
   pub births : AreBornBelow (length x.state.branches) x.state.branches → AreBornBelow (length x'.state.branches) x'.state.branches
 
 -- so it is where branches are added
-pub lengthens_by : (g : Setting) (x x' : Told (of_kernel g.program)) (more : List Branch) → ((f : ℕ) → x.actions f ≤ x'.actions f) → Grown x.state.branches x'.state.branches more → AreBornBelow (length x.state.branches) more → Lengthens g x x'
+pub lengthens_by : (g : Setting) (x x' : Counted (of_kernel g.program)) (more : List Branch) → ((f : ℕ) → x.actions f ≤ x'.actions f) → Grown x.state.branches x'.state.branches more → AreBornBelow (length x.state.branches) more → Lengthens g x x'
 lengthens_by g x x' more actions grown below =
     let n = grown_length x.state.branches x'.state.branches more grown in
     let le : length x.state.branches ≤ length x'.state.branches = omega (arith, n) in
@@ -81,9 +81,9 @@ pub kids_still : (lives lives' : ℕ → Life) (maker : Family) (par : ℕ) (thr
 kids_still lives lives' maker par [] same h = tt
 kids_still lives lives' maker par (u ∷ us) same h = (same u (inl refl) ∙ h.0, kids_still lives lives' maker par us (λ v m. same v (inr m)) h.1)
 
-module _ (g : Setting) (x x' : Told (of_kernel g.program)) (longer : Lengthens g x x') where
+module _ (g : Setting) (x x' : Counted (of_kernel g.program)) (longer : Lengthens g x x') where
   -- what a family has done
-  pub actions_at : (y : Told (of_kernel g.program)) (name : Family) (f : ℕ) → family_in g.program y.state name ≡ Some f → actions_of (of_kernel g.program) y (Some name) ≡ y.actions f
+  pub actions_at : (y : Counted (of_kernel g.program)) (name : Family) (f : ℕ) → family_in g.program y.state name ≡ Some f → actions_of (of_kernel g.program) y (Some name) ≡ y.actions f
   actions_at y name f e = ap (actions_by (of_kernel g.program) y) e
 
   actions_by_less : (name : Family) (o : Option ℕ) → family_in g.program x.state name ≡ o → actions_by (of_kernel g.program) x o ≤ actions_of (of_kernel g.program) x' (Some name)
@@ -128,7 +128,7 @@ pub record GetsNothing (a b : CoreState) : Type 0 where
   pub syncs : (n : ℕ) → sync_got a b n ≡ false
   pub threads : (u : ℕ) → thread_got a b u ≡ false
 
-module _ (g : Setting) (who who' : Roles) (w w' : Watched) (x x' : Told (of_kernel g.program)) (roles : AreRoles g who) (named : AreNamed g who w x) (longer : Lengthens g x x') where
+module _ (g : Setting) (who who' : Roles) (w w' : Watched) (x x' : Counted (of_kernel g.program)) (roles : AreRoles g who) (named : AreNamed g who w x) (longer : Lengthens g x x') where
   -- a thread whose role and life are as they were
   pub other_named : (c t : ℕ) → w'.lives c t ≡ w.lives c t → ((u v : ℕ) → who c u ≡ got_by v → w'.lives c u ≡ w.lives c u) →
       ((r : Runner) (hand : Option Acquired) → who c t ≡ used_by r hand → pars_of r.family x'.state.branches ≡ pars_of r.family x.state.branches) →

@@ -11,12 +11,12 @@ use Rattle.xc_meaning.specs.States.Items.{Item}
 use Rattle.xl_par.specs.Acquired.{Acquired, IsAmong, with_sync, with_thread_got}
 use Rattle.xr_match.specs.Lives.{Watched, in_use, life_after, tie_of}
 use Rattle.xr_match.specs.Meanings.{of_kernel}
-use Rattle.xr_match.specs.Sources.{Told}
+use Rattle.xr_match.specs.Sources.{Counted}
 use Rattle.xr_simulation.specs.Living.{AreNamed}
 use Rattle.xr_simulation.specs.Roles.{AcquiredFits, Role, Roles, empty, gives_back, got_by, opens, unused, used_by}
 use Rattle.xr_simulation.specs.Runners.{Setting, Runner}
 use Rattle.xr_simulation.specs.ThreadViews.{HandChange, SameUse, ThreadView, gets_sync, gets_thread, held_in, keeps}
-use Rattle.xr_simulation.specs.Standing.{Standing}
+use Rattle.xr_simulation.specs.MatchStates.{MatchStates}
 use Rattle.xr_simulation.proofs.Lives.ParBegins.{among_cases}
 use Rattle.xr_simulation.proofs.Lives.Bound.{in_use_now, stand_of}
 use Rattle.xr_simulation.proofs.Lives.OwnEvents.{step_named}
@@ -42,7 +42,7 @@ empty_yet items h none (opens held bs rest e is sum several none_held) =
     (no_threads, omega (arith, all, zero_threads, several))
 
 module _ (g : Setting) (may_rest : (core thread : ℕ) → Bool) (who who' : Roles) (w : Watched) (m' : Machine)
-    (x x' : Told (of_kernel g.program)) (st : Standing g may_rest who w x) (named : AreNamed g who w x) (goes : Goes g x x') (c t : ℕ)
+    (x x' : Counted (of_kernel g.program)) (st : MatchStates g may_rest who w x) (named : AreNamed g who w x) (goes : Goes g x x') (c t : ℕ)
     (y z : ThreadView) (at_a : slice_get w.machine.cores c ≡ Some y.core) (at_b : slice_get m'.cores c ≡ Some z.core) (r : Runner) where
   abbrev w' : Watched
   w' = record { machine = m'; lives = life_after w m' c t }

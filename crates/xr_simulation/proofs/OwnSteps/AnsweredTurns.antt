@@ -16,9 +16,9 @@ use Rattle.xr_simulation.specs.Parents.{Parent, branches_of}
 use Rattle.xr_simulation.specs.Roles.{IsParent, ParentWaits, ParentsWait, empty, outermost}
 use Rattle.xr_simulation.specs.Runners.{Setting, footprint_of, shrunk}
 use Rattle.xr_simulation.specs.ThreadViews.{ThreadView, running, running_so}
-use Rattle.xr_simulation.specs.Standing.{HasEnded, Stand, StandsBy, StandsWith, ThreadIs, counts, none_rests}
+use Rattle.xr_simulation.specs.MatchStates.{HasEnded, RunsBranch, ProgressBy, ProgressWith, ThreadIs, counts, none_rests}
 use Rattle.xr_simulation.specs.Transfers.{StopsIn, Transfer}
-use Rattle.xr_simulation.specs.Turns.{Errs, Frees, Goes, IsTiedThread, IsWaitingTied, Waits, cost, failed, finished, is_watching}
+use Rattle.xr_simulation.specs.NextStep.{Errs, Frees, Goes, IsTiedThread, IsWaitingTied, Waits, cost, failed, finished, is_watching}
 use Rattle.xr_simulation.proofs.OwnSteps.Answers.{errs_step, frees_step, goes_step, trap_leaves, waits_step}
 use Rattle.xr_simulation.proofs.Relation.Counts.{made_counts, root_counts}
 use Rattle.xr_simulation.proofs.RelyGuarantee.Less.{uses_less}
@@ -108,7 +108,7 @@ module _ {moment : Moment none_rests} {thread_at : ThreadAt moment None} (branch
     abbrev pub went_watched : Watched
     went_watched = watched_on thread_at went (rests_alone c t)
 
-    went_stand : Stand g (shrunk r h.items) (rests_alone c t c t) None h.left h.acts.world (went_watched.lives c t)
+    went_stand : RunsBranch g (shrunk r h.items) (rests_alone c t c t) None h.left h.acts.world (went_watched.lives c t)
         (told_by g.program g.stimulus x (h.acts.action ∷ []) h.acts.world).actions (record h.acts.branch { items = h.items })
     went_stand =
         let further = h.jumps + cost g r in
@@ -136,9 +136,9 @@ module _ {moment : Moment none_rests} {thread_at : ThreadAt moment None} (branch
           ends_tied = λ f. absurd (runs_ended (sym h.acts.mode ∙ f));
           left = further;
           bound = bound_behind went j further few (omega arith);
-          by = subst (λ m. StandsBy g (shrunk r h.items) (rests_alone c t c t) h.items m further z) (sym h.acts.mode)
+          by = subst (λ m. ProgressBy g (shrunk r h.items) (rests_alone c t c t) h.items m further z) (sym h.acts.mode)
               (rests_more g (shrunk r h.items) true (rests_alone c t c t) h.items runs further z (λ f. rests_there c t)
-              (subst (λ o. StandsWith g (shrunk r h.items) true o h.items further z) (sym none) (inr (inr (h.jumps, omega arith, refl, rest)))));
+              (subst (λ o. ProgressWith g (shrunk r h.items) true o h.items further z) (sym none) (inr (inr (h.jumps, omega arith, refl, rest)))));
         }
       where
         runs_ended : runs ≡ ended → ⊥
@@ -162,7 +162,7 @@ module _ {moment : Moment none_rests} {thread_at : ThreadAt moment None} (branch
     abbrev pub erring_watched : Watched
     erring_watched = watched_on thread_at erring none_rests
 
-    erring_stand : Stand g (shrunk r []) false None (trapped a r.thread) h.acts.world (erring_watched.lives c t)
+    erring_stand : RunsBranch g (shrunk r []) false None (trapped a r.thread) h.acts.world (erring_watched.lives c t)
         (told_by g.program g.stimulus x (h.acts.action ∷ []) h.acts.world).actions (failed h.acts.branch)
     erring_stand =
         let t' = trap_leaves g r c a x.state stand.thread.thread stand.thread.there in
@@ -253,7 +253,7 @@ module _ {moment : Moment none_rests} {thread_at : ThreadAt moment None} (branch
     abbrev pub waiting_watched : Watched
     waiting_watched = watched_on thread_at waiting none_rests
 
-    waiting_stand : Stand g (shrunk r []) false None h.left h.acts.world (waiting_watched.lives c t)
+    waiting_stand : RunsBranch g (shrunk r []) false None h.left h.acts.world (waiting_watched.lives c t)
         (told_by g.program g.stimulus x (h.acts.action ∷ []) h.acts.world).actions (finished h.acts.branch)
     waiting_stand =
         let th = waits_thread (slice_get h.left.threads r.thread) refl h.waits in

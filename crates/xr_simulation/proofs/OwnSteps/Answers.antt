@@ -17,8 +17,8 @@ use Rattle.xl_expr.proofs.Lists.{get_set_same, get_set_other}
 use Rattle.xl_expr.proofs.ResourceParts.{others_same}
 use Rattle.xr_simulation.specs.Runners.{HoldsPlaces, Setting, Runner, IsPort, port_place}
 use Rattle.xr_simulation.specs.ThreadViews.{Guarantee, ThreadView, running_so}
-use Rattle.xr_simulation.specs.Standing.{counts, is_of_root, one_where}
-use Rattle.xr_simulation.specs.Turns.{Errs, Frees, Goes, HoldsStore, IsFree, IsWaitingTied, PortsStand, Waits, failed, finished, is_watching}
+use Rattle.xr_simulation.specs.MatchStates.{counts, is_of_root, one_where}
+use Rattle.xr_simulation.specs.NextStep.{Errs, Frees, Goes, HoldsStore, IsFree, IsWaitingTied, PortsStand, Waits, failed, finished, is_watching}
 use Rattle.xr_simulation.proofs.Relation.Counts.{ended_counts, counts_own}
 use Rattle.xr_simulation.proofs.OwnSteps.Events.{OwnStep}
 

@@ -15,13 +15,13 @@ use Rattle.xc_invariants.specs.Tree.{IsWaiting}
 use Rattle.xl_par.specs.Acquired.{Acquired}
 use Rattle.xr_match.specs.Lives.{Life, Watched}
 use Rattle.xr_match.specs.Meanings.{of_kernel}
-use Rattle.xr_match.specs.Sources.{Told}
+use Rattle.xr_match.specs.Sources.{Counted}
 use Rattle.xr_match.specs.Systems.{SomeIs}
 use Rattle.xr_simulation.specs.Images.{IsImageOf}
 use Rattle.xr_simulation.specs.Parents.{Parent}
 use Rattle.xr_simulation.specs.Roles.{AreRoles, AreUsedSo, AcquiredFits, HasReserves, ParentsWait, Roles, used_by}
 use Rattle.xr_simulation.specs.Runners.{Setting, Runner, footprint_of}
-use Rattle.xr_simulation.specs.Standing.{Stand, Standing, Stands, ThreadIs}
+use Rattle.xr_simulation.specs.MatchStates.{RunsBranch, MatchStates, ThreadRel, ThreadIs}
 use Rattle.xr_simulation.specs.Transfers.{StopsIn}
 
 -- A runner's branch, which doesn't wait. One that has ended is in no transfer, and one that has erred waited for an answer where it was in one.
@@ -78,13 +78,13 @@ used_by_thread (p ∷ ps) ended thread h e = let z : Running ≡ Unused = sym h 
 used_by_thread ps erred thread h e = let z : Trapped ≡ Unused = sym h ∙ e in absurd cc
 
 pub never_waits : (g : Setting) (r : Runner) (may_rest : Bool) (hand : Option Acquired) (a : CoreState) (x : World) (life : Life) (actions : ℕ → ℕ) (branch : Branch) →
-    Stand g r may_rest hand a x life actions branch → IsWaiting branch.mode → ⊥
+    RunsBranch g r may_rest hand a x life actions branch → IsWaiting branch.mode → ⊥
 never_waits g r may_rest hand a x life actions branch h w = goes_by r.parents branch.mode h.thread.thread.mode h.thread.is w
 
 pub works_of : (g : Setting) (r : Runner) (may_rest : Bool) (hand : Option Acquired) (a : CoreState) (x : World) (life : Life) (actions : ℕ → ℕ) →
-    Stands g may_rest a x life actions (used_by r hand) → Works g x r hand
+    ThreadRel g may_rest a x life actions (used_by r hand) → Works g x r hand
 works_of g r may_rest hand a x life actions h =
-    let s = some_is (Stand g r may_rest hand a x life actions) (slice_get x.branches r.branch) h in
+    let s = some_is (RunsBranch g r may_rest hand a x life actions) (slice_get x.branches r.branch) h in
     let st = s.2 in
     record {
       branch = s.0;
@@ -102,15 +102,15 @@ works_of g r may_rest hand a x life actions h =
     }
 
 pub own_thread_of : (g : Setting) (r : Runner) (may_rest : Bool) (hand : Option Acquired) (a : CoreState) (x : World) (life : Life) (actions : ℕ → ℕ) →
-    Stands g may_rest a x life actions (used_by r hand) → HasOwnThread a r
+    ThreadRel g may_rest a x life actions (used_by r hand) → HasOwnThread a r
 own_thread_of g r may_rest hand a x life actions h =
-    let s = some_is (Stand g r may_rest hand a x life actions) (slice_get x.branches r.branch) h in
+    let s = some_is (RunsBranch g r may_rest hand a x life actions) (slice_get x.branches r.branch) h in
     let t = s.2.thread in
     record { thread = t.thread; there = t.there; tied = t.tied; used = used_by_thread r.parents s.0.mode t.thread.mode t.is }
 
-module _ (g : Setting) (first who : Roles) (may_rest : ℕ → ℕ → Bool) (w : Watched) (x : Told (of_kernel g.program)) (c : ℕ) (a : CoreState) (image : IsImageOf g first) (st : Standing g may_rest who w x) (at_c : slice_get w.machine.cores c ≡ Some a) where
-  stands_at : (t : ℕ) (r : Runner) (hand : Option Acquired) → who c t ≡ used_by r hand → Stands g (may_rest c t) a x.state (w.lives c t) x.actions (used_by r hand)
-  stands_at t r hand e = subst (Stands g (may_rest c t) a x.state (w.lives c t) x.actions) e (st.threads c t a at_c)
+module _ (g : Setting) (first who : Roles) (may_rest : ℕ → ℕ → Bool) (w : Watched) (x : Counted (of_kernel g.program)) (c : ℕ) (a : CoreState) (image : IsImageOf g first) (st : MatchStates g may_rest who w x) (at_c : slice_get w.machine.cores c ≡ Some a) where
+  stands_at : (t : ℕ) (r : Runner) (hand : Option Acquired) → who c t ≡ used_by r hand → ThreadRel g (may_rest c t) a x.state (w.lives c t) x.actions (used_by r hand)
+  stands_at t r hand e = subst (ThreadRel g (may_rest c t) a x.state (w.lives c t) x.actions) e (st.threads c t a at_c)
 
   pub crew_of : Crew g who x.state c a
   crew_of =

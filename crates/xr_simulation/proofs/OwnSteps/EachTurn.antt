@@ -19,15 +19,15 @@ use Rattle.xc_meaning.specs.States.Worlds.{World}
 use Rattle.xl_par.specs.Acquired.{Acquired}
 use Rattle.xr_match.specs.Lives.{Life, Watched, watched_after}
 use Rattle.xr_match.specs.Meanings.{of_kernel}
-use Rattle.xr_match.specs.Sources.{Told}
+use Rattle.xr_match.specs.Sources.{Counted}
 use Rattle.xr_match.specs.Systems.{SomeIs}
 use Rattle.xr_simulation.specs.Parents.{Parent}
 use Rattle.xr_simulation.specs.Roles.{AcquiredFits, Role, Roles, got_by, unused, used_by}
 use Rattle.xr_simulation.specs.Runners.{Setting, Runner, footprint_of, home}
 use Rattle.xr_simulation.specs.ThreadViews.{IsSilentStep, LeadsIn, Rely, ThreadView, giving_back}
-use Rattle.xr_simulation.specs.Standing.{EventsAre, HasEnded, HasThread, Stand, Stands, StandsBy, StandsWith, ThreadIs, none_rests}
+use Rattle.xr_simulation.specs.MatchStates.{EventsAre, HasEnded, HasThread, RunsBranch, ThreadRel, ProgressBy, ProgressWith, ThreadIs, none_rests}
 use Rattle.xr_simulation.specs.Transfers.{StopsIn, Transfer, steps_left, in_phase}
-use Rattle.xr_simulation.specs.Turns.{Communicates, Errs, Frees, GivesBack, Goes, InTransfer, IsFree, IsWaitingTied, Joins, JoinsAt, Piece, Turn, Turns, Waits, begins, communicates, cost, errs, frees, goes_on, pauses, puts_out, takes_in, waits_tied}
+use Rattle.xr_simulation.specs.NextStep.{Communicates, Errs, Frees, GivesBack, Goes, InTransfer, IsFree, IsWaitingTied, Joins, JoinsAt, Piece, NextStep, StableNextStep, Waits, begins, communicates, cost, errs, frees, goes_on, pauses, puts_out, takes_in, waits_tied}
 use Rattle.xr_simulation.proofs.Channels.AnswerRows.{answer_followed}
 use Rattle.xr_simulation.proofs.Par.Opens as begun
 use Rattle.xr_simulation.proofs.Par.Opens.{begins_followed}
@@ -54,7 +54,7 @@ use Rattle.xr_channels.specs.Phases.{Phase, awaits_ack, between, checks_end, clo
 use Rattle.xr_channels.specs.Phases as wires
 
 -- a piece follows, behind which some threads of one core may be at rest
-pub record FollowsSo (g : Setting) (old : Roles) (before : Watched) (x : Told (of_kernel g.program)) (w : Watched) : Type 0 where
+pub record FollowsSo (g : Setting) (old : Roles) (before : Watched) (x : Counted (of_kernel g.program)) (w : Watched) : Type 0 where
   pub core : ℕ
   pub there : core < 4
   pub may_rest : (core thread : ℕ) → Bool
@@ -62,7 +62,7 @@ pub record FollowsSo (g : Setting) (old : Roles) (before : Watched) (x : Told (o
   pub follows : Follows g may_rest old before x w
 
 -- the same stand, where what is in hand is the same
-abbrev pub stand_as : (g : Setting) (r : Runner) (rests : Bool) (hand hand' : Option Acquired) (a : CoreState) (x : World) (life : Life) (actions : ℕ → ℕ) (branch : Branch) → hand ≡ hand' → Stand g r rests hand a x life actions branch → Stand g r rests hand' a x life actions branch
+abbrev pub stand_as : (g : Setting) (r : Runner) (rests : Bool) (hand hand' : Option Acquired) (a : CoreState) (x : World) (life : Life) (actions : ℕ → ℕ) (branch : Branch) → hand ≡ hand' → RunsBranch g r rests hand a x life actions branch → RunsBranch g r rests hand' a x life actions branch
 stand_as g r rests hand hand' a x life actions branch e h = record {
   core = h.core;
   family = h.family;
@@ -77,7 +77,7 @@ stand_as g r rests hand hand' a x life actions branch e h = record {
   ends_tied = h.ends_tied;
   left = h.left;
   bound = h.bound;
-  by = subst (λ k. StandsBy g r rests branch.items branch.mode h.left (record { core = a; world = x; hand = k })) e h.by;
+  by = subst (λ k. ProgressBy g r rests branch.items branch.mode h.left (record { core = a; world = x; hand = k })) e h.by;
 }
 
 -- a thread that doesn't run has no step
@@ -92,7 +92,7 @@ no_step h w m c t a did (inl i) e = no_machine m (sym (ap (stepped h w c t a) i)
 no_step h w m c t a did (inr p) e = no_machine m (sym (ap (stepped h w c t a) p) ∙ e)
 
 -- and where the branch is the same
-abbrev pub stand_of : (g : Setting) (r : Runner) (rests : Bool) (hand : Option Acquired) (a : CoreState) (x : World) (life : Life) (actions : ℕ → ℕ) (branch branch' : Branch) → branch ≡ branch' → Stand g r rests hand a x life actions branch → Stand g r rests hand a x life actions branch'
+abbrev pub stand_of : (g : Setting) (r : Runner) (rests : Bool) (hand : Option Acquired) (a : CoreState) (x : World) (life : Life) (actions : ℕ → ℕ) (branch branch' : Branch) → branch ≡ branch' → RunsBranch g r rests hand a x life actions branch → RunsBranch g r rests hand a x life actions branch'
 stand_of g r rests hand a x life actions branch branch' e h = record {
   core = subst (λ (b : Branch). b.core ≡ r.core) e h.core;
   family = subst (λ (b : Branch). b.family ≡ r.family) e h.family;
@@ -107,7 +107,7 @@ stand_of g r rests hand a x life actions branch branch' e h = record {
   ends_tied = subst (λ (b : Branch). b.mode ≡ ended → r.parents ≡ [] → (n : ℕ) × (r.tie ≡ Some n)) e h.ends_tied;
   left = h.left;
   bound = h.bound;
-  by = subst (λ (b : Branch). StandsBy g r rests b.items b.mode h.left (record { core = a; world = x; hand = hand })) e h.by;
+  by = subst (λ (b : Branch). ProgressBy g r rests b.items b.mode h.left (record { core = a; world = x; hand = hand })) e h.by;
 }
 
 module _ (moment : Moment none_rests)
@@ -118,7 +118,7 @@ module _ (moment : Moment none_rests)
   Goal = FollowsSo g who w x (watched_after w (Step c t) m)
 
   module _ (r : Runner) (hand : Option Acquired) (runs_r : who c t ≡ used_by r hand)
-      (branch : Branch) (known : slice_get x.state.branches r.branch ≡ Some branch) (stand : Stand g r false hand a x.state (w.lives c t) x.actions branch) where
+      (branch : Branch) (known : slice_get x.state.branches r.branch ≡ Some branch) (stand : RunsBranch g r false hand a x.state (w.lives c t) x.actions branch) where
     abbrev now : ThreadView
     now = record { core = a; world = x.state; hand = hand }
 
@@ -165,7 +165,7 @@ module _ (moment : Moment none_rests)
       runs_alone : who c t ≡ used_by r None
       runs_alone = runs_r ∙ ap (used_by r) none
 
-      abbrev stand_alone : Stand g r false None a x.state (w.lives c t) x.actions branch
+      abbrev stand_alone : RunsBranch g r false None a x.state (w.lives c t) x.actions branch
       stand_alone = stand_as g r false hand None a x.state (w.lives c t) x.actions branch none stand
 
       abbrev thread_alone : ThreadAt moment None
@@ -213,7 +213,7 @@ module _ (moment : Moment none_rests)
           (waits_answered here_alone outside h)
 
     -- the turn at an item's own instruction
-    at_turn : branch.mode ≡ runs → r.transfer ≡ None → (j : ℕ) → j ≤ stand.left → Turn g r j now → Leaves (slot (home g r) a r.thread) → Goal
+    at_turn : branch.mode ≡ runs → r.transfer ≡ None → (j : ℕ) → j ≤ stand.left → NextStep g r j now → Leaves (slot (home g r) a r.thread) → Goal
     at_turn on out j few (pauses p none) e = no_step (home g r) w.machine m r.core r.thread a (slot (home g r) a r.thread) (inr p) e
     at_turn on out j few (errs h) e = err_goal h.no_hand out (subst (λ k. Errs g r (record { core = a; world = x.state; hand = k })) h.no_hand h) e
     at_turn on out j few (goes_on h) e = go_goal h.no_hand out j few (subst (λ k. Goes g r j (record { core = a; world = x.state; hand = k })) h.no_hand h) e
@@ -233,7 +233,7 @@ module _ (moment : Moment none_rests)
     -- a silent step
     on_the_way : (z : ThreadView) → ((mode : ThreadMode) → mode ≡ Running → ThreadIs r.parents branch.mode mode) →
         ((bit : Bool) → bit ≡ false → EventsAre branch.mode branch.items bit) → IsSilentStep g r now z → (left : ℕ) →
-        suc left ≤ stand.left → StandsBy g r false branch.items branch.mode left z → Leaves (slot (home g r) a r.thread) → Goal
+        suc left ≤ stand.left → ProgressBy g r false branch.items branch.mode left z → Leaves (slot (home g r) a r.thread) → Goal
     on_the_way z alive calm silent left few by e =
         goal_of none_rests (λ d u ne. refl) z.core None [] (ap (stepped (home g r) w.machine r.core r.thread a) silent.made) e
         (silent_followed (branch_of thread_here branch known stand) z alive calm silent left few by)
@@ -251,13 +251,13 @@ module _ (moment : Moment none_rests)
         let is = subst (λ k. EventsAre k branch.items stand.thread.thread.event_bit) is_running stand.thread.events in
         events_on branch.mode branch.items bit is_running (e ∙ sym silent.was.no_events ∙ ap (λ (i : Thread). i.event_bit) (sym same) ∙ is)
 
-    by_way : branch.mode ≡ runs → r.transfer ≡ None → (n j : ℕ) → n + j ≤ stand.left → LeadsIn g r (Turns g r j) n now → Leaves (slot (home g r) a r.thread) → Goal
+    by_way : branch.mode ≡ runs → r.transfer ≡ None → (n j : ℕ) → n + j ≤ stand.left → LeadsIn g r (StableNextStep g r j) n now → Leaves (slot (home g r) a r.thread) → Goal
     by_way running out zero j few leads e = at_turn running out j (omega arith) (leads now here) e
     by_way running out (suc n) j few (inl leads) e = at_turn running out j (omega arith) (leads now here) e
     by_way running out (suc n) j few (inr on) e =
         let next = on now here in
         on_the_way next.0 (running_alive running) (running_calm running next.0 next.1) next.1 (n + j) (omega arith)
-        (subst (λ k. StandsBy g r false branch.items k (n + j) next.0) (sym running) (subst (λ o. StandsWith g r false o branch.items (n + j) next.0) (sym out) (inl (n, j, omega arith, next.2)))) e
+        (subst (λ k. ProgressBy g r false branch.items k (n + j) next.0) (sym running) (subst (λ o. ProgressWith g r false o branch.items (n + j) next.0) (sym out) (inl (n, j, omega arith, next.2)))) e
 
     -- one that gives a synchroniser back
     by_resuming : branch.mode ≡ runs → r.transfer ≡ None → (j : ℕ) → 1 + j + cost g r ≤ stand.left → GivesBack g r branch.items j now → Leaves (slot (home g r) a r.thread) → Goal
@@ -297,7 +297,7 @@ module _ (moment : Moment none_rests)
       by_joining (suc n) j few (inr on) e =
           let next = on now here in
           on_the_way next.0 ended_alive ended_calm next.1 (n + j) (omega arith)
-          (subst (λ k. StandsBy g r false branch.items k (n + j) next.0) (sym over) (subst (λ l. HasEnded g r l (n + j) next.0) (sym parents) (n, j, omega arith, next.2))) e
+          (subst (λ k. ProgressBy g r false branch.items k (n + j) next.0) (sym over) (subst (λ l. HasEnded g r l (n + j) next.0) (sym parents) (n, j, omega arith, next.2))) e
 
     -- however it is
     by_parents : (ps : List Parent) → r.parents ≡ ps → branch.mode ≡ ended → HasEnded g r ps stand.left now → Leaves (slot (home g r) a r.thread) → Goal
@@ -311,7 +311,7 @@ module _ (moment : Moment none_rests)
     trapped_mode (p ∷ ps) h = h
 
     -- one that runs, outside of a transfer or inside one
-    by_transfer : branch.mode ≡ runs → (o : Option Transfer) → r.transfer ≡ o → StandsWith g r false o branch.items stand.left now → Leaves (slot (home g r) a r.thread) → Goal
+    by_transfer : branch.mode ≡ runs → (o : Option Transfer) → r.transfer ≡ o → ProgressWith g r false o branch.items stand.left now → Leaves (slot (home g r) a r.thread) → Goal
     by_transfer running None out (inl (n, j, few, leads)) e = by_way running out n j few leads e
     by_transfer running None out (inr (inl (j, few, h))) e = by_resuming running out j few h e
     by_transfer running None out (inr (inr h)) e = absurd h
@@ -322,7 +322,7 @@ module _ (moment : Moment none_rests)
         in_transfer h.no_hand running transfer.channel transfer.side transfer.phase (its ∙ ap Some on_time) j few
         (subst (λ k. InTransfer g r k branch.items j (alone h.no_hand)) on_time h') e
 
-    by_mode : (mode : Mode) → branch.mode ≡ mode → StandsBy g r false branch.items mode stand.left now → Leaves (slot (home g r) a r.thread) → Goal
+    by_mode : (mode : Mode) → branch.mode ≡ mode → ProgressBy g r false branch.items mode stand.left now → Leaves (slot (home g r) a r.thread) → Goal
     by_mode runs is_running h e = by_transfer is_running r.transfer refl h e
     by_mode (waits from count) is_waiting h e = absurd h
     by_mode ended over h e = by_parents r.parents refl over h e
@@ -331,7 +331,7 @@ module _ (moment : Moment none_rests)
         (idle_thread (home g r) a r.thread stand.thread.thread stand.thread.there (inr (inr (trapped_mode r.parents (subst (λ k. ThreadIs r.parents k stand.thread.thread.mode) over stand.thread.is))))) e
 
   -- wherever the branch stands
-  at_branch : (r : Runner) (hand : Option Acquired) → who c t ≡ used_by r hand → (o : Option Branch) → slice_get x.state.branches r.branch ≡ o → SomeIs o (Stand g r false hand a x.state (w.lives c t) x.actions) → stepped (home_of g.image g.stimulus c) w.machine c t a (slot (home_of g.image g.stimulus c) a t) ≡ Some m → Goal
+  at_branch : (r : Runner) (hand : Option Acquired) → who c t ≡ used_by r hand → (o : Option Branch) → slice_get x.state.branches r.branch ≡ o → SomeIs o (RunsBranch g r false hand a x.state (w.lives c t) x.actions) → stepped (home_of g.image g.stimulus c) w.machine c t a (slot (home_of g.image g.stimulus c) a t) ≡ Some m → Goal
   at_branch r hand runs_r None known h e = absurd h
   at_branch r hand runs_r (Some branch) known h e =
       let core = st.roles.core c t r hand runs_r in
@@ -360,7 +360,7 @@ module _ (moment : Moment none_rests)
       let f = free_thread_of (slice_get a.threads t) refl (used.unused t (omega arith) free) in
       no_step (home_of g.image g.stimulus c) w.machine m c t a (slot (home_of g.image g.stimulus c) a t) (idle_thread (home_of g.image g.stimulus c) a t f.0 f.1 (inl f.2)) e
 
-  pub step_followed : (role : Role) → who c t ≡ role → Stands g false a x.state (w.lives c t) x.actions role → stepped (home_of g.image g.stimulus c) w.machine c t a (slot (home_of g.image g.stimulus c) a t) ≡ Some m → Goal
+  pub step_followed : (role : Role) → who c t ≡ role → ThreadRel g false a x.state (w.lives c t) x.actions role → stepped (home_of g.image g.stimulus c) w.machine c t a (slot (home_of g.image g.stimulus c) a t) ≡ Some m → Goal
   step_followed unused is_role h e = outside (slice_get a.threads t) refl is_role e
   step_followed (got_by k) is_role h e =
       let q = st.roles.got c t k is_role in

@@ -15,8 +15,8 @@ use Rattle.xr_simulation.specs.Items.{LastAt}
 use Rattle.xl_statements.specs.Pieces.{SlaveEndsAt}
 use Rattle.xr_simulation.specs.Runners.{Setting, Runner, code, home, plan}
 use Rattle.xr_simulation.specs.ThreadViews.{ThreadView, running}
-use Rattle.xr_simulation.specs.Turns as turn
-use Rattle.xr_simulation.specs.Turns.{Acts, Frees, Has, IsAt, IsFree, IsWaitingTied, Leads, Turn, Turns, Waits, finished, own_go}
+use Rattle.xr_simulation.specs.NextStep as turn
+use Rattle.xr_simulation.specs.NextStep.{Acts, Frees, Has, IsAt, IsFree, IsWaitingTied, Leads, NextStep, StableNextStep, Waits, finished, own_go}
 use Rattle.xr_simulation.proofs.RelyGuarantee.ThreadViews.{leads_now}
 use Rattle.xr_simulation.proofs.RelyGuarantee.Layouts.{has_kept, runs_at}
 use Rattle.xr_simulation.proofs.ItemCode.Evaluations.{item_acts}
@@ -105,7 +105,7 @@ module _ (g : Setting) (r : Runner) where
 
   -- one or the other, by the tie
   end_turns : (tie : Option ℕ) → r.tie ≡ tie → (j : ℕ) (rest : List Item) (pc : ℕ) (regs : Regs) (y : ThreadView) → r.parents ≡ [] →
-      LastAt (plan g r) (code g r) tie pc → Has g r (ends ∷ rest) y → IsAt g r y pc regs → y.hand ≡ None → Turn g r j y
+      LastAt (plan g r) (code g r) tie pc → Has g r (ends ∷ rest) y → IsAt g r y pc regs → y.hand ≡ None → NextStep g r j y
   end_turns None is j rest pc regs y alone last has here no_hand = turn.frees (end_frees rest pc regs y is alone last has here no_hand)
   end_turns (Some n) is j rest pc regs y alone last has here no_hand = turn.waits_tied (end_waits n rest pc regs y is alone last has here no_hand)
 
@@ -114,5 +114,5 @@ module _ (g : Setting) (r : Runner) where
       LastAt (plan g r) (code g r) r.tie pc →
       Has g r (ends ∷ rest) z → IsAt g r z pc regs → z.hand ≡ None → Leads g r most j z
   end_leads rest pc j most z regs alone last has here no_hand =
-      leads_now g r (Turns g r j) most z
+      leads_now g r (StableNextStep g r j) most z
       (λ y k. end_turns r.tie refl j rest pc regs y alone last (has_kept g r (ends ∷ rest) z y k has) (k.thread ∙ here) (k.hand ∙ no_hand))

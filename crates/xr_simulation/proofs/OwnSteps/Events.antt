@@ -26,9 +26,9 @@ use Rattle.xr_simulation.specs.Parents.{Parent, branches_of}
 use Rattle.xr_simulation.specs.Roles.{IsParent, ParentsWait, Role, Roles, got_by, own_branches, used_by}
 use Rattle.xr_simulation.specs.Runners.{Footprint, Runner, Setting, footprint_of}
 use Rattle.xr_simulation.specs.ThreadViews.{Guarantee, giving_back}
-use Rattle.xr_simulation.specs.Standing.{AreLoose, IsMade, IsRun, Stand, Stands, counts, living_on, none_rests}
+use Rattle.xr_simulation.specs.MatchStates.{AreLoose, IsMade, IsRun, RunsBranch, ThreadRel, counts, living_on, none_rests}
 use Rattle.xr_simulation.specs.Transfers.{Transfer}
-use Rattle.xr_simulation.specs.Turns.{HoldsStore, IsNext, PortsStand, first_changes}
+use Rattle.xr_simulation.specs.NextStep.{HoldsStore, IsNext, PortsStand, first_changes}
 use Rattle.xr_simulation.specs.Wired.{AreWired, HasAlone}
 use Rattle.xr_simulation.proofs.Channels.OwnSide.{alone_behind}
 use Rattle.xr_simulation.proofs.Relation.Counts.{far_counts, living_after}
@@ -220,7 +220,7 @@ module _ {moment : Moment none_rests} (thread_at : ThreadAt moment None)
   core_of_branch = stand_core ∙ core_is
     where
       stand_core : e.branch.core ≡ r.core
-      stand_core = (subst (λ o. SomeIs o (Stand g r false None a x.state (w.lives c t) x.actions)) e.known
+      stand_core = (subst (λ o. SomeIs o (RunsBranch g r false None a x.state (w.lives c t) x.actions)) e.known
           (stands_at moment c t a r None at_c runs_r)).core
 
   pub own_far_roots : (d : ℕ) → d ≢ c → living_on d e.world.branches ≡ living_on d x.state.branches
@@ -396,16 +396,16 @@ module _ {moment : Moment none_rests} (thread_at : ThreadAt moment None)
 
     module _ (w' : Watched) (event : IsEvent w') (wired : AreWired g who_on w'.machine e.world)
         (alone : (transfer : Transfer) → e.transfer ≡ Some transfer → HasAlone e.world.branches transfer.channel transfer.side r.branch)
-        (stand : Stand g s (may_rest' c t) None e.left e.world (w'.lives c t) (told_by g.program g.stimulus x piece e.world).actions
+        (stand : RunsBranch g s (may_rest' c t) None e.left e.world (w'.lives c t) (told_by g.program g.stimulus x piece e.world).actions
         e.next) where
       own_stand : (u : ℕ) → only_thread t u ≡ true →
-          Stands g (may_rest' c u) e.left e.world (w'.lives c u) (told_by g.program g.stimulus x piece e.world).actions (who_on c u)
+          ThreadRel g (may_rest' c u) e.left e.world (w'.lives c u) (told_by g.program g.stimulus x piece e.world).actions (who_on c u)
       own_stand u m =
           let actions = (told_by g.program g.stimulus x piece e.world).actions in
           let at : u ≡ t = eqb-true u t m in
-          subst (λ k. Stands g (may_rest' c k) e.left e.world (w'.lives c k) actions (who_on c k)) (sym at)
-          (subst (Stands g (may_rest' c t) e.left e.world (w'.lives c t) actions) (sym (role_here who c t (used_by s None)))
-          (subst (λ o. SomeIs o (Stand g s (may_rest' c t) None e.left e.world (w'.lives c t) actions)) (sym own_branch) stand))
+          subst (λ k. ThreadRel g (may_rest' c k) e.left e.world (w'.lives c k) actions (who_on c k)) (sym at)
+          (subst (ThreadRel g (may_rest' c t) e.left e.world (w'.lives c t) actions) (sym (role_here who c t (used_by s None)))
+          (subst (λ o. SomeIs o (RunsBranch g s (may_rest' c t) None e.left e.world (w'.lives c t) actions)) (sym own_branch) stand))
 
       own_alone : (u : ℕ) (i : Runner) (hand : Option Acquired) (transfer : Transfer) → only_thread t u ≡ true → who_on c u ≡ used_by i hand → i.transfer ≡ Some transfer → HasAlone e.world.branches transfer.channel transfer.side i.branch
       own_alone u i hand transfer m at its =
@@ -459,6 +459,6 @@ module _ {moment : Moment none_rests} (thread_at : ThreadAt moment None)
 
     pub goes_on_answered : AreWired g who_on watched_on.machine e.world →
         ((transfer : Transfer) → e.transfer ≡ Some transfer → HasAlone e.world.branches transfer.channel transfer.side r.branch) →
-        Stand g s (may_rest' c t) None e.left e.world (watched_on.lives c t) (told_by g.program g.stimulus x piece e.world).actions e.next →
+        RunsBranch g s (may_rest' c t) None e.left e.world (watched_on.lives c t) (told_by g.program g.stimulus x piece e.world).actions e.next →
         Follows g may_rest' who w x watched_on
     goes_on_answered wired alone stand = event_follows watched_on is_step wired alone stand

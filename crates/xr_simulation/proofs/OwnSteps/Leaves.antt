@@ -13,9 +13,9 @@ use Rattle.xr_simulation.specs.Parents.{branches_of}
 use Rattle.xr_simulation.specs.Roles.{Roles, own_branches, unused, used_by}
 use Rattle.xr_simulation.specs.Runners.{Runner}
 use Rattle.xr_simulation.specs.ThreadViews.{giving_back}
-use Rattle.xr_simulation.specs.Standing.{AreLoose, IsRun, Stands, none_rests}
+use Rattle.xr_simulation.specs.MatchStates.{AreLoose, IsRun, ThreadRel, none_rests}
 use Rattle.xr_simulation.specs.Transfers.{Transfer}
-use Rattle.xr_simulation.specs.Turns.{IsFree}
+use Rattle.xr_simulation.specs.NextStep.{IsFree}
 use Rattle.xr_simulation.proofs.RelyGuarantee.Holding.{loose_behind}
 use Rattle.xr_simulation.proofs.Relation.Moments.{Moment, ThreadAt}
 use Rattle.xr_simulation.proofs.Relation.CoreSteps.{Effect, laid_at, same_runner}
@@ -138,7 +138,7 @@ module _ {moment : Moment none_rests} (thread_at : ThreadAt moment None)
               stand = λ u m.
                   let at : u ≡ t = eqb-true u t m in
                   let actions = (told_by g.program g.stimulus x piece e.world).actions in
-                  subst (Stands g false e.left e.world (watched_off.lives c u) actions) (sym (ap (who_off c) at ∙ role_here who c t unused)) tt;
+                  subst (ThreadRel g false e.left e.world (watched_off.lives c u) actions) (sym (ap (who_off c) at ∙ role_here who c t unused)) tt;
               links = st.links;
               wired = wired_still g who who_off w.machine watched_off.machine c a e.left x.state e.world (off_transfers none) at_c refl
                   ends boxes st.wired;

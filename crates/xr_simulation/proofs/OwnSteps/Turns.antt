@@ -22,7 +22,7 @@ use Rattle.xl_statements.specs.Pieces.{Exit}
 use Rattle.xr_simulation.specs.Fits.{ItemsFit}
 use Rattle.xr_simulation.specs.Runners.{HoldsPlaces, Setting, Runner, MayChange, home}
 use Rattle.xr_simulation.specs.ThreadViews.{ThreadView, running}
-use Rattle.xr_simulation.specs.Turns.{HasBases, Has, IsAt, ItemsFrom, Goes, SameParts, StandsAt, first_changes, is_watching, own_go}
+use Rattle.xr_simulation.specs.NextStep.{HasBases, Has, IsAt, ItemsFrom, Goes, SameParts, IsPlacedAt, first_changes, is_watching, own_go}
 use Rattle.xr_simulation.proofs.ItemCode.Evaluations.{runs_with, with_items}
 use Rattle.xr_simulation.proofs.RelyGuarantee.Layouts.{ports_last}
 use Rattle.xr_simulation.proofs.Relation.Sizes.{words_sized}
@@ -52,7 +52,7 @@ module _ (g : Setting) (r : Runner) where
       acts g.program g.stimulus y.world (go r.branch) ≡ Some (record (with_items y.world r.branch has.branch items) { store = store }) →
       ((v : ℕ) → by_item (change v) item ≡ false → words_of store v ≡ words_of y.world.store v) →
       HoldsPlaces g r.core r.footprint.uses words store → r.stack + temporary ≤ length words → is_watching items ≡ false →
-      (jumps : ℕ) → ((core : CoreState) → SameParts g r.core items y.core core → StandsAt g r items jumps pc regs core) →
+      (jumps : ℕ) → ((core : CoreState) → SameParts g r.core items y.core core → IsPlacedAt g r items jumps pc regs core) →
       ItemsFit g r items → jumps ≤ j + 1 → Goes g r j y
   own_goes j y pc regs words made bases no_hand item rest items store has acted same holds room unwatched jumps stands fits fewer =
       let th = running r.tie made.index regs in

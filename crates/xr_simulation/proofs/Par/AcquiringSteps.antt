@@ -18,7 +18,7 @@ use Rattle.xr_simulation.specs.Runners.{Setting, Runner, home, port_place, relie
 use Rattle.xr_simulation.specs.ThreadViews as views
 use Rattle.xr_simulation.specs.Sizes.{sizes_of}
 use Rattle.xr_simulation.specs.ThreadViews.{Guarantee, HandChange, IsSilentStep, LeadsIn, Rely, SpareFor, StillRuns, ThreadView, held_in, sync_in}
-use Rattle.xr_simulation.specs.Turns.{Has}
+use Rattle.xr_simulation.specs.NextStep.{Has}
 use Rattle.xr_simulation.proofs.RelyGuarantee.Arrival.{same_use, stack_relied}
 use Rattle.xr_simulation.proofs.RelyGuarantee.Layouts.{has_kept, ports_last}
 use Rattle.xr_simulation.proofs.Relation.Pools.{first_free_is, first_unused}

@@ -17,17 +17,17 @@ use Rattle.xl_expr.proofs.Lists.{get_set_same, get_set_other}
 use Rattle.xl_par.specs.Acquired.{Acquired, IsAmong, with_sync, with_thread_got}
 use Rattle.xr_match.specs.Lives.{life_after, watched_after}
 use Rattle.xr_match.specs.Meanings.{of_kernel}
-use Rattle.xr_match.specs.Sources.{Told}
+use Rattle.xr_match.specs.Sources.{Counted}
 use Rattle.xr_simulation.specs.Roles.{AreUsedSo, AcquiredFits, Role, Roles, empty, gives_back, got_by, opens, unused, used_by}
 use Rattle.xr_simulation.specs.Runners.{Runner}
 use Rattle.xr_simulation.specs.ThreadViews.{HandChange, IsSilentStep, Owns, gets_sync, gets_thread, keeps, SameUse, ThreadView, StillRuns, Guarantee, giving_back, held_in, sync_in}
-use Rattle.xr_simulation.specs.Standing.{EventsAre, StandsBy, ThreadIs, none_rests}
+use Rattle.xr_simulation.specs.MatchStates.{EventsAre, ProgressBy, ThreadIs, none_rests}
 use Rattle.xr_simulation.specs.Living.{AreNamed}
 use Rattle.xr_simulation.proofs.Relation.Moments.{BranchAt, Moment, ThreadAt}
 use Rattle.xr_simulation.proofs.Lives.Links.{gets_sync_linked, gets_thread_linked, keeps_linked, told_same}
 use Rattle.xr_simulation.proofs.Lives.Pieces.{Goes}
 use Rattle.xr_simulation.proofs.Relation.Lasting.{Follows, told_by}
-use Rattle.xr_simulation.specs.Turns.{IsFree, IsWaitingTied}
+use Rattle.xr_simulation.specs.NextStep.{IsFree, IsWaitingTied}
 use Rattle.xr_simulation.proofs.Relation.CoreSteps.{crew_at, same_hand, same_runner, stands_at, works_at}
 use Rattle.xr_simulation.proofs.OwnSteps.Events.{only_thread}
 use Rattle.xr_simulation.proofs.Relation.Pools.{first_unused, num_is}
@@ -375,7 +375,7 @@ module _ {moment : Moment none_rests} {hand : Option Acquired} (thread_at : Thre
     same_more u ne nv = role_other (with_role who c t (used_by r hand_more)) c v (got_by t) u nv ∙ role_other who c t (used_by r hand_more) u ne
 
     -- and so the lives are named
-    pub more_named : AreNamed g who w x → (m' : Machine) → slice_get m'.cores c ≡ Some z.core → (y : Told (of_kernel g.program)) → Goes g x y → AreNamed g who_more (record { machine = m'; lives = life_after w m' c t }) y
+    pub more_named : AreNamed g who w x → (m' : Machine) → slice_get m'.cores c ≡ Some z.core → (y : Counted (of_kernel g.program)) → Goes g x y → AreNamed g who_more (record { machine = m'; lives = life_after w m' c t }) y
     more_named names m' at_b y goes =
         gets_thread_linked g none_rests who w x st names m' c t now z at_c at_b r y goes h n v x' runs_h free_role few_there inside_there synced lacks next there same_syncs tied others
 
@@ -431,7 +431,7 @@ module _ {moment : Moment none_rests} {hand : Option Acquired} {thread_at : Thre
     (calm : (bit : Bool) → bit ≡ false → EventsAre branch_at.branch.mode branch_at.branch.items bit)
     (silent : IsSilentStep moment.setting thread_at.runner (record { core = thread_at.state; world = moment.told.state; hand = hand }) z)
     (left : ℕ) (few : suc left ≤ branch_at.stand.left)
-    (by : StandsBy moment.setting thread_at.runner false branch_at.branch.items branch_at.branch.mode left z) where
+    (by : ProgressBy moment.setting thread_at.runner false branch_at.branch.items branch_at.branch.mode left z) where
   open moment use {setting as g, image as is, roles as who, watched as w, told as x, standing as st}
   open thread_at use {core as c, thread as t, state as a, at_core as at_c, runner as r, runs as runs_r}
   open branch_at use {branch, stand}
@@ -443,7 +443,7 @@ module _ {moment : Moment none_rests} {hand : Option Acquired} {thread_at : Thre
   before = record { core = a; world = x.state; hand = hand }
 
   -- the program does nothing
-  abbrev nothing_told : Told (of_kernel g.program)
+  abbrev nothing_told : Counted (of_kernel g.program)
   nothing_told = told_by g.program g.stimulus x [] x.state
 
   nothing_done : Goes g x nothing_told
@@ -463,7 +463,7 @@ module _ {moment : Moment none_rests} {hand : Option Acquired} {thread_at : Thre
   by_roles hand' e who' moved roles named =
       silent_answered branch_at z.core hand' alive calm silent.on (view_is hand' e (Guarantee g r before) silent.guarantee) silent.roots
       silent.channel_ends who' moved roles left few
-      (view_is hand' e (StandsBy g r false branch.items branch.mode left) by) named
+      (view_is hand' e (ProgressBy g r false branch.items branch.mode left) by) named
 
   by_change : HandChange g r before z → Follows g none_rests who w x (watched_after w (Step c t) silent_machine)
   by_change (keeps e syncs same) =

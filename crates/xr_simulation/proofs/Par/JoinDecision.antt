@@ -16,14 +16,14 @@ use Rattle.xl_par.specs.Acquired.{Acquired, IsAmong}
 use Rattle.xl_par.proofs.Pools.{all_waiting}
 use Rattle.xr_match.specs.Lives.{Life, Watched}
 use Rattle.xr_match.specs.Meanings.{of_kernel}
-use Rattle.xr_match.specs.Sources.{Told}
+use Rattle.xr_match.specs.Sources.{Counted}
 use Rattle.xr_match.specs.Systems.{SomeIs}
 use Rattle.xr_simulation.specs.Parents.{Parent, sync_before, syncs_of}
 use Rattle.xr_simulation.specs.Roles.{AreUsedSo, AcquiredFits, IsOnce, IsParent, ParentsWait, Role, Roles, empty, gives_back, got_by, opens, outermost, unused, used_by}
 use Rattle.xr_simulation.specs.Runners.{Setting, Runner}
 use Rattle.xr_simulation.specs.ThreadViews.{held_in, sync_in}
-use Rattle.xr_simulation.specs.Standing.{EventsAre, Stand, Standing, Stands, ThreadIs}
-use Rattle.xr_simulation.specs.Turns.{IsFree, IsWaitingTied}
+use Rattle.xr_simulation.specs.MatchStates.{EventsAre, RunsBranch, MatchStates, ThreadRel, ThreadIs}
+use Rattle.xr_simulation.specs.NextStep.{IsFree, IsWaitingTied}
 use Rattle.xr_simulation.proofs.Relation.CoreSteps.{parent_sync, same_runner}
 use Rattle.xr_simulation.proofs.Relation.Pools.{num_is, num_same, tied_wait}
 
@@ -89,10 +89,10 @@ pub record Runs (g : Setting) (a : CoreState) (x : World) (s : Runner) (other : 
   pub is : ThreadIs s.parents branch.mode thread.mode
   pub in_hand : AcquiredFits branch.items other
 
-pub runs_by : (g : Setting) (rests : Bool) (a : CoreState) (x : World) (life : Life) (actions : ℕ → ℕ) (s : Runner) (other : Option Acquired) → Stands g rests a x life actions (used_by s other) → Runs g a x s other
+pub runs_by : (g : Setting) (rests : Bool) (a : CoreState) (x : World) (life : Life) (actions : ℕ → ℕ) (s : Runner) (other : Option Acquired) → ThreadRel g rests a x life actions (used_by s other) → Runs g a x s other
 runs_by g rests a x life actions s other h = by (slice_get x.branches s.branch) refl h
   where
-    by : (o : Option Branch) → slice_get x.branches s.branch ≡ o → SomeIs o (Stand g s rests other a x life actions) → Runs g a x s other
+    by : (o : Option Branch) → slice_get x.branches s.branch ≡ o → SomeIs o (RunsBranch g s rests other a x life actions) → Runs g a x s other
     by None e k = absurd k
     by (Some b) e k = record {
       branch = b;
@@ -106,9 +106,9 @@ runs_by g rests a x life actions s other h = by (slice_get x.branches s.branch) 
       in_hand = k.in_hand;
     }
 
-module _ (g : Setting) (may_rest : (core thread : ℕ) → Bool) (who : Roles) (w : Watched) (x : Told (of_kernel g.program)) (st : Standing g may_rest who w x) (c : ℕ) (a : CoreState) (at_c : slice_get w.machine.cores c ≡ Some a) where
+module _ (g : Setting) (may_rest : (core thread : ℕ) → Bool) (who : Roles) (w : Watched) (x : Counted (of_kernel g.program)) (st : MatchStates g may_rest who w x) (c : ℕ) (a : CoreState) (at_c : slice_get w.machine.cores c ≡ Some a) where
   pub runs_at_thread : (u : ℕ) (s : Runner) (other : Option Acquired) → who c u ≡ used_by s other → Runs g a x.state s other
-  runs_at_thread u s other e = runs_by g (may_rest c u) a x.state (w.lives c u) x.actions s other (subst (Stands g (may_rest c u) a x.state (w.lives c u) x.actions) e (st.threads c u a at_c))
+  runs_at_thread u s other e = runs_by g (may_rest c u) a x.state (w.lives c u) x.actions s other (subst (ThreadRel g (may_rest c u) a x.state (w.lives c u) x.actions) e (st.threads c u a at_c))
 
   -- the thread of one that began as a branch waits where that branch has ended
   ends_where : (s : Runner) (other : Option Acquired) (k : ℕ) (u : ℕ) → who c u ≡ used_by s other → s.family ≡ k → (run : Runs g a x.state s other) → run.thread.mode ≡ Waiting → is_done (slice_get x.state.branches k) ≡ true
@@ -206,8 +206,8 @@ module _ (g : Setting) (may_rest : (core thread : ℕ) → Bool) (who : Roles) (
         by false e false f = e ∙ sym f
 
 -- where the first branch of a `par` has ended, all threads that are tied to its synchroniser wait exactly where all of its branches have ended
-pub joins_together : (g : Setting) (may_rest : (core thread : ℕ) → Bool) (who : Roles) (w : Watched) (x : Told (of_kernel g.program)) →
-    Standing g may_rest who w x →
+pub joins_together : (g : Setting) (may_rest : (core thread : ℕ) → Bool) (who : Roles) (w : Watched) (x : Counted (of_kernel g.program)) →
+    MatchStates g may_rest who w x →
     (c t n : ℕ) (a : CoreState) (r : Runner) (hand : Option Acquired) (p : Parent) (ps : List Parent) →
     slice_get w.machine.cores c ≡ Some a → who c t ≡ used_by r hand → r.parents ≡ p ∷ ps → p.sync ≡ Some n →
     is_done (slice_get x.state.branches r.branch) ≡ true →

@@ -31,9 +31,9 @@ use Rattle.xr_simulation.specs.Roles.{AreRoles, AreUsedSo, HasReserves, ParentsW
 use Rattle.xr_simulation.specs.Runners.{Footprint, Setting, Runner, code, footprint_of, home, plan}
 use Rattle.xr_simulation.specs.Sizes.{Sizes}
 use Rattle.xr_simulation.specs.ThreadViews.{Owns, giving_back, held_in, running, sync_in}
-use Rattle.xr_simulation.specs.Standing.{AreLoose, EventsAre, HasEnded, IsMade, IsRun, Stand, Stands, StandsBy, counts, is_of_root, living_on, none_rests, one_where}
+use Rattle.xr_simulation.specs.MatchStates.{AreLoose, EventsAre, HasEnded, IsMade, IsRun, RunsBranch, ThreadRel, ProgressBy, counts, is_of_root, living_on, none_rests, one_where}
 use Rattle.xr_simulation.specs.Transfers.{Transfer}
-use Rattle.xr_simulation.specs.Turns.{GivesBack, Has, IsFree, IsWaitingTied, JoinsAt, cost, is_watching}
+use Rattle.xr_simulation.specs.NextStep.{GivesBack, Has, IsFree, IsWaitingTied, JoinsAt, cost, is_watching}
 use Rattle.xr_simulation.proofs.RelyGuarantee.Apartness.{room_of_role}
 use Rattle.xr_simulation.proofs.Relation.Counts.{living_after}
 use Rattle.xr_simulation.proofs.Par.JoinDecision.{Runs, done_each, ended_waits, hand_has_sync, runs_at_thread, tied_began, together, waits_where}
@@ -128,8 +128,8 @@ module _ {moment : Moment none_rests} (thread_at : ThreadAt moment None)
       j : IsJoined u s other
       j = joined_thread u s other e tie
 
-      stands : Stands g (none_rests c u) a x.state (w.lives c u) x.actions (used_by s other)
-      stands = subst (Stands g (none_rests c u) a x.state (w.lives c u) x.actions) e (st.threads c u a at_c)
+      stands : ThreadRel g (none_rests c u) a x.state (w.lives c u) x.actions (used_by s other)
+      stands = subst (ThreadRel g (none_rests c u) a x.state (w.lives c u) x.actions) e (st.threads c u a at_c)
 
       mode_is : (m : Mode) → has_ended m ≡ true → m ≡ ended
       mode_is runs h = absurd (let z : ⊥ = cc in z)
@@ -137,12 +137,12 @@ module _ {moment : Moment none_rests} (thread_at : ThreadAt moment None)
       mode_is ended h = refl
       mode_is erred h = absurd (let z : ⊥ = cc in z)
 
-      by : (o : Option Branch) → slice_get x.state.branches s.branch ≡ o → SomeIs o (Stand g s (none_rests c u) other a x.state (w.lives c u) x.actions) → (s.parents ≡ []) × (other ≡ None)
+      by : (o : Option Branch) → slice_get x.state.branches s.branch ≡ o → SomeIs o (RunsBranch g s (none_rests c u) other a x.state (w.lives c u) x.actions) → (s.parents ≡ []) × (other ≡ None)
       by None f h = absurd h
       by (Some b) f h =
           let same : j.run.branch ≡ b = same_Some j.run.branch b (sym j.run.known ∙ f) in
           let over : b.mode ≡ ended = mode_is b.mode (ap (λ (i : Branch). has_ended i.mode) (sym same) ∙ j.over) in
-          let stood = subst (λ m. StandsBy g s (none_rests c u) b.items m h.left (record { core = a; world = x.state; hand = other })) over h.by in
+          let stood = subst (λ m. ProgressBy g s (none_rests c u) b.items m h.left (record { core = a; world = x.state; hand = other })) over h.by in
           (j.no_parents, subst (λ l. HasEnded g s l h.left (record { core = a; world = x.state; hand = other })) j.no_parents stood)
 
   -- the thread itself isn't among them
@@ -191,7 +191,7 @@ module _ {moment : Moment none_rests} (thread_at : ThreadAt moment None)
           let same : thread ≡ run.thread = same_Some thread run.thread (sym there ∙ ap (slice_get a.threads) (sym (st.roles.thread c u s other e)) ∙ run.there) in
           (s, other, e, sym run.tied ∙ ap (λ (i : Thread). i.tie) (sym same) ∙ num_is thread.tie n tied)
 
-  module _ (j : ℕ) (stand : Stand g r false None a x.state (w.lives c t) x.actions branch) (few : j ≤ stand.left) (at_join : JoinsAt g r p ps j (record { core = a; world = x.state; hand = None })) where
+  module _ (j : ℕ) (stand : RunsBranch g r false None a x.state (w.lives c t) x.actions branch) (few : j ≤ stand.left) (at_join : JoinsAt g r p ps j (record { core = a; world = x.state; hand = None })) where
     sync_is : at_join.sync ≡ n
     sync_is = let e : Some at_join.sync ≡ Some n = sym at_join.sync_is ∙ sync in cc
 
@@ -634,7 +634,7 @@ module _ {moment : Moment none_rests} (thread_at : ThreadAt moment None)
         let its : 1 ≤ steps_of g.program g.stimulus maker_branch.family (Some x.state) piece = omega (arith, one) in
         subst (λ f. 1 ≤ steps_of g.program g.stimulus f (Some x.state) piece) chain.0.of_family its
 
-    stand' : Stand g maker true (giving_back n) left world (watched'.lives c t) (told_by g.program g.stimulus x piece world).actions next
+    stand' : RunsBranch g maker true (giving_back n) left world (watched'.lives c t) (told_by g.program g.stimulus x piece world).actions next
     stand' = record {
       core = chain.0.on_core;
       family = chain.0.of_family;
@@ -663,14 +663,14 @@ module _ {moment : Moment none_rests} (thread_at : ThreadAt moment None)
       by = inr (inl (j, omega arith, subst (λ items. GivesBack g maker items j (record { core = left; world = world; hand = giving_back n })) (sym chain.0.items) gives'));
     }
 
-    stand_by : (u : ℕ) → moved u ≡ true → roles_after.Place g who c t st.roles r runs_r p ps parents n sync c u → Stands g (rests_alone c t c u) left world (watched'.lives c u) (told_by g.program g.stimulus x piece world).actions (who' c u)
+    stand_by : (u : ℕ) → moved u ≡ true → roles_after.Place g who c t st.roles r runs_r p ps parents n sync c u → ThreadRel g (rests_alone c t c u) left world (watched'.lives c u) (told_by g.program g.stimulus x piece world).actions (who' c u)
     stand_by u m (roles_after.at_own e f now) =
         let more = (told_by g.program g.stimulus x piece world).actions in
-        subst (λ k. Stands g (rests_alone c t c k) left world (watched'.lives c k) more (who' c k)) (sym f)
-        (subst (λ b. Stands g b left world (watched'.lives c t) more (who' c t)) (sym (rests_there c t))
-        (subst (Stands g true left world (watched'.lives c t) more) (sym (roles_after.own_there g who c t st.roles r runs_r p ps parents n sync))
-        (subst (λ o. SomeIs o (Stand g maker true (giving_back n) left world (watched'.lives c t) more)) (sym next_there) stand')))
-    stand_by u m (roles_after.freed e ne now tied) = subst (Stands g (rests_alone c t c u) left world (watched'.lives c u) (told_by g.program g.stimulus x piece world).actions) (sym now) tt
+        subst (λ k. ThreadRel g (rests_alone c t c k) left world (watched'.lives c k) more (who' c k)) (sym f)
+        (subst (λ b. ThreadRel g b left world (watched'.lives c t) more (who' c t)) (sym (rests_there c t))
+        (subst (ThreadRel g true left world (watched'.lives c t) more) (sym (roles_after.own_there g who c t st.roles r runs_r p ps parents n sync))
+        (subst (λ o. SomeIs o (RunsBranch g maker true (giving_back n) left world (watched'.lives c t) more)) (sym next_there) stand')))
+    stand_by u m (roles_after.freed e ne now tied) = subst (ThreadRel g (rests_alone c t c u) left world (watched'.lives c u) (told_by g.program g.stimulus x piece world).actions) (sym now) tt
     stand_by u m (roles_after.elsewhere same not_own no_tie) =
         absurd (no_tie refl (roles_after.tied_then g who c t st.roles r runs_r p ps parents n sync (who c u)
         (sym (ap (λ b. b || tied_role_of (who c u)) (ne_eqb u t (λ e. not_own (refl, e)))) ∙ m)))

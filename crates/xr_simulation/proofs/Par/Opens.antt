@@ -22,7 +22,7 @@ use Rattle.xl_ends.specs.Ends.{Sides, codes_in}
 use Rattle.xr_match.specs.Lives.{Life, Watched}
 use Rattle.xr_match.specs.Systems.{SomeIs}
 use Rattle.xr_simulation.specs.Parents.{Parent, branches_of}
-use Rattle.xr_simulation.specs.Runners.{HoldsPlaces, Block, Footprint, Runner, code, footprint_of, outside, plan, plan_in}
+use Rattle.xr_simulation.specs.Runners.{HoldsPlaces, Activation, Footprint, Runner, code, footprint_of, outside, plan, plan_in}
 use Rattle.xr_simulation.specs.Sizes.{Sizes}
 use Rattle.xr_simulation.specs.ThreadViews.{Owns, giving_back, running, sync_in}
 use Rattle.xr_simulation.proofs.Relation.Counts.{living_after}
@@ -46,8 +46,8 @@ use Rattle.xr_simulation.specs.Fits.{FitOn}
 use Rattle.xr_simulation.specs.Items.{EndAt, ItemsAt}
 use Rattle.xr_simulation.specs.Transfers.{Transfer}
 use Rattle.xr_simulation.specs.Roles.{AreRoles, AreUsedSo, HasReserves, IsParent, ParentsWait, Roles, empty, got_by, own_branches, unused, used_by}
-use Rattle.xr_simulation.specs.Standing.{AreLoose, IsMade, IsRun, IsWanted, Stand, Stands, StandsBy, ThreadIs, counts, is_of_root, living_on, none_rests, one_where}
-use Rattle.xr_simulation.specs.Turns.{Begins, HoldsStore, IsFree, IsSetOff, IsWaitingTied, Placed, Rest, backwards, cost, is_watching, placed_in}
+use Rattle.xr_simulation.specs.MatchStates.{AreLoose, IsMade, IsRun, IsWanted, RunsBranch, ThreadRel, ProgressBy, ThreadIs, counts, is_of_root, living_on, none_rests, one_where}
+use Rattle.xr_simulation.specs.NextStep.{Begins, HoldsStore, IsFree, IsSetOff, IsWaitingTied, Placed, Rest, backwards, cost, is_watching, placed_in}
 use Rattle.xr_simulation.proofs.RelyGuarantee.Holding.{loose_behind}
 use Rattle.xr_simulation.proofs.Par.Joins.{parents_below}
 use Rattle.xr_simulation.proofs.Lives.OwnLife.{own_life}
@@ -577,7 +577,7 @@ module _ {moment : Moment none_rests} {hand : Option Acquired} (thread_at : Thre
       let room = core.room u inside in
       let size = ap (λ (s : Sizes). s.words) (st.sizes c a at_c) in
       let stacks = core.stacks in
-      let plan_is : (plan g r).first_stack ≡ (g.plans c).first_stack = ap (λ (k : Block). (plan_in (g.plans r.core) k.plan).first_stack)
+      let plan_is : (plan g r).first_stack ≡ (g.plans c).first_stack = ap (λ (k : Activation). (plan_in (g.plans r.core) k.plan).first_stack)
       outermost_block ∙ ap (λ k. (g.plans k).first_stack) core_is in
       let sp = off.stack in
       record {
@@ -623,7 +623,7 @@ module _ {moment : Moment none_rests} {hand : Option Acquired} (thread_at : Thre
       ap (λ e. life_by (e && nat_eq u t) (e && is_got w.machine m' c u) mine new (w.lives c u)) (eq-eqb c c refl)
       ∙ ap (λ e. life_by e (is_got w.machine m' c u) mine new (w.lives c u)) (ne_eqb u t ne)
       ∙ ap (λ e. life_by false e mine new (w.lives c u)) not_got in
-      let stood : Stands g false a x.state (w.lives c u) x.actions (got_by t) = subst (Stands g false a x.state (w.lives c u) x.actions) got_is (st.threads c u a at_c) in
+      let stood : ThreadRel g false a x.state (w.lives c u) x.actions (got_by t) = subst (ThreadRel g false a x.state (w.lives c u) x.actions) got_is (st.threads c u a at_c) in
       ap (λ (l : Life). l.steps) life ∙ stood
 
   at_least : (most more : ℕ) → most ≤ most * (more + 1)
@@ -632,7 +632,7 @@ module _ {moment : Moment none_rests} {hand : Option Acquired} (thread_at : Thre
       let grown = mul-le-mul_left most one in
       omega (arith, grown)
 
-  kid_stand : (u i : ℕ) (e : index_among b.hand.threads u ≡ Some i) → Stands g true left world (watched'.lives c u) (told_by g.program g.stimulus x piece world).actions (used_by (kid i u) None)
+  kid_stand : (u i : ℕ) (e : index_among b.hand.threads u ≡ Some i) → ThreadRel g true left world (watched'.lives c u) (told_by g.program g.stimulus x piece world).actions (used_by (kid i u) None)
   kid_stand u i e =
       let within = index_within b.hand.threads u i e in
       let k = off_with u i e in
@@ -641,7 +641,7 @@ module _ {moment : Moment none_rests} {hand : Option Acquired} (thread_at : Thre
       let new : IsNew b.branch (from + i) i (length (all_begun all)) k.0 branch = made.2 in
       let on_core : branch.core ≡ r.core = new.core ∙ maker_core in
       let rest = kid_rest u i k.0 within.0 k.2 k.1 branch made.1 new.mode on_core new.items in
-      subst (λ o. SomeIs o (Stand g (kid i u) true None left world (watched'.lives c u) (told_by g.program g.stimulus x piece world).actions)) (sym made.1) (record {
+      subst (λ o. SomeIs o (RunsBranch g (kid i u) true None left world (watched'.lives c u) (told_by g.program g.stimulus x piece world).actions)) (sym made.1) (record {
         core = on_core;
         family = new.family ∙ family_is i within.1;
         footprint = ap (λ o. footprint_of (items_at o)) k.2 ∙ ap footprint_of (sym new.items);
@@ -667,7 +667,7 @@ module _ {moment : Moment none_rests} {hand : Option Acquired} (thread_at : Thre
             let life = kid_life u (held_not_own u within.0) within.0 in
             let grown = at_least (kernel_bound g.program) ((told_by g.program g.stimulus x piece world).actions (from + i)) in
             subst (λ s. s + cost g (kid i u) ≤ kernel_bound g.program * ((told_by g.program g.stimulus x piece world).actions (from + i) + 1)) (sym life) (omega (arith, grown));
-        by = subst (λ m. StandsBy g (kid i u) true branch.items m (cost g (kid i u)) (record { core = left; world = world; hand = None })) (sym new.mode)
+        by = subst (λ m. ProgressBy g (kid i u) true branch.items m (cost g (kid i u)) (record { core = left; world = world; hand = None })) (sym new.mode)
             (inr (inr (0, omega arith, refl, subst (λ its. Rest g (kid i u) its 0 (record { core = left; world = world; hand = None })) (sym new.items) rest)));
       })
     where
@@ -690,7 +690,7 @@ module _ {moment : Moment none_rests} {hand : Option Acquired} (thread_at : Thre
       let its : 1 ≤ steps_of g.program g.stimulus b.branch.family (Some x.state) piece = omega (arith, one) in
       subst (λ f. 1 ≤ steps_of g.program g.stimulus f (Some x.state) piece) family its
 
-  module _ (stand : Stand g r false hand a x.state (w.lives c t) x.actions b.branch) (none : r.transfer ≡ None) (few : j ≤ stand.left) where
+  module _ (stand : RunsBranch g r false hand a x.state (w.lives c t) x.actions b.branch) (none : r.transfer ≡ None) (few : j ≤ stand.left) where
     several : 1 ≤ length b.hand.threads
     several = let many = as_many in let some = b.several in omega (arith, many, some)
 
@@ -704,7 +704,7 @@ module _ {moment : Moment none_rests} {hand : Option Acquired} (thread_at : Thre
         other_there k there.0 ne there.1 ∙ sym there.1)
         stand.parents
 
-    own_stand : Stands g true left world (watched'.lives c t) (told_by g.program g.stimulus x piece world).actions (used_by own None)
+    own_stand : ThreadRel g true left world (watched'.lives c t) (told_by g.program g.stimulus x piece world).actions (used_by own None)
     own_stand =
         let made = made_there g.program g.stimulus r.branch x.state b.branch all b.rest r.sides maker_sides 0 first_placed first_there in
         let branch : Branch = made.0 in
@@ -716,7 +716,7 @@ module _ {moment : Moment none_rests} {hand : Option Acquired} (thread_at : Thre
         let many = as_many in
         let count : length (all_begun all) ≡ suc (length b.hand.threads) = omega (arith, counted, many) in
         let rest = own_rest branch there new.mode on_core new.items in
-        subst (λ o. SomeIs o (Stand g own true None left world (watched'.lives c t) (told_by g.program g.stimulus x piece world).actions)) (sym there) (record {
+        subst (λ o. SomeIs o (RunsBranch g own true None left world (watched'.lives c t) (told_by g.program g.stimulus x piece world).actions)) (sym there) (record {
           core = on_core;
           family = new.family ∙ stand.family;
           footprint = ap footprint_of (sym new.items);
@@ -758,20 +758,20 @@ module _ {moment : Moment none_rests} {hand : Option Acquired} (thread_at : Thre
               let fewer = b.fewer in
               subst (λ s. s + (b.jumps + cost g own) ≤ kernel_bound g.program * ((told_by g.program g.stimulus x piece world).actions r.family + 1)) (sym life)
               (bound_grows (kernel_bound g.program) (greatest_count g.program) (w.lives c t).steps stand.left j (b.jumps + cost g own) (x.actions r.family) (steps_of g.program g.stimulus r.family (Some x.state) piece) refl stand.bound few (omega (arith, fewer)) (counts_one stand.family));
-          by = subst (λ m. StandsBy g own true branch.items m (b.jumps + cost g own) (record { core = left; world = world; hand = None })) (sym new.mode)
+          by = subst (λ m. ProgressBy g own true branch.items m (b.jumps + cost g own) (record { core = left; world = world; hand = None })) (sym new.mode)
               (inr (inr (b.jumps, omega arith, refl, subst (λ its. Rest g own its b.jumps (record { core = left; world = world; hand = None })) (sym new.items) rest)));
         })
 
-    stand_by : (u : ℕ) → moved u ≡ true → PlaceAt c u → Stands g (rests c u) left world (watched'.lives c u) (told_by g.program g.stimulus x piece world).actions (who' c u)
+    stand_by : (u : ℕ) → moved u ≡ true → PlaceAt c u → ThreadRel g (rests c u) left world (watched'.lives c u) (told_by g.program g.stimulus x piece world).actions (who' c u)
     stand_by u m (roles_after.at_own e f now) =
         let more = (told_by g.program g.stimulus x piece world).actions in
-        subst (λ k. Stands g k left world (watched'.lives c u) more (who' c u)) (sym (rests_here u m))
-        (subst (Stands g true left world (watched'.lives c u) more) (sym now)
-        (subst (λ k. Stands g true left world (watched'.lives c k) more (used_by own None)) (sym f) own_stand))
+        subst (λ k. ThreadRel g k left world (watched'.lives c u) more (who' c u)) (sym (rests_here u m))
+        (subst (ThreadRel g true left world (watched'.lives c u) more) (sym now)
+        (subst (λ k. ThreadRel g true left world (watched'.lives c k) more (used_by own None)) (sym f) own_stand))
     stand_by u m (roles_after.at_kid i e among now old) =
         let more = (told_by g.program g.stimulus x piece world).actions in
-        subst (λ k. Stands g k left world (watched'.lives c u) more (who' c u)) (sym (rests_here u m))
-        (subst (Stands g true left world (watched'.lives c u) more) (sym now) (kid_stand u i among))
+        subst (λ k. ThreadRel g k left world (watched'.lives c u) more (who' c u)) (sym (rests_here u m))
+        (subst (ThreadRel g true left world (watched'.lives c u) more) (sym now) (kid_stand u i among))
     stand_by u m (roles_after.elsewhere same not_own no_kid) =
         let k = moved_kid u (λ e. not_own (refl, e)) m in
         absurd (no_kid refl (index_within b.hand.threads u k.0 k.1).0)

@@ -23,8 +23,8 @@ use Rattle.xr_simulation.specs.Parents.{Parent, syncs_of}
 use Rattle.xr_simulation.specs.Roles.{AreRoles, AreUsedSo, IsParent, Role, Roles, empty, got_by, unused, used_by}
 use Rattle.xr_simulation.specs.Runners.{Runner, home}
 use Rattle.xr_simulation.specs.ThreadViews.{Owns, giving_back, held_in, running, sync_in}
-use Rattle.xr_simulation.specs.Standing.{AreLoose, IsRun, Stand, Stands, StandsBy, StandsWith, ThreadIs, none_rests}
-use Rattle.xr_simulation.specs.Turns.{GivesBack, IsFree, IsWaitingTied, Rest, cost, is_watching}
+use Rattle.xr_simulation.specs.MatchStates.{AreLoose, IsRun, RunsBranch, ThreadRel, ProgressBy, ProgressWith, ThreadIs, none_rests}
+use Rattle.xr_simulation.specs.NextStep.{GivesBack, IsFree, IsWaitingTied, Rest, cost, is_watching}
 use Rattle.xr_simulation.proofs.Relation.Moments.{Moment, ThreadAt}
 use Rattle.xr_simulation.proofs.OwnSteps.Events.{rests_alone, rests_there}
 use Rattle.xr_simulation.proofs.Par.JoinDecision.{hand_has_sync, runs_at_thread}
@@ -93,7 +93,7 @@ module _ {moment : Moment none_rests} {n : ℕ} (thread_at : ThreadAt moment (gi
       by u thread there false e = e
 
   module _ (branch : Branch) (known : slice_get x.state.branches r.branch ≡ Some branch) (mode : branch.mode ≡ runs)
-      (stand : Stand g r false (giving_back n) a x.state (w.lives c t) x.actions branch) (none : r.transfer ≡ None) (j : ℕ) (few : 1 + j + cost g r ≤ stand.left)
+      (stand : RunsBranch g r false (giving_back n) a x.state (w.lives c t) x.actions branch) (none : r.transfer ≡ None) (j : ℕ) (few : 1 + j + cost g r ≤ stand.left)
       (gives : GivesBack g r branch.items j (record { core = a; world = x.state; hand = giving_back n })) where
     sync_is : gives.sync ≡ n
     sync_is = let e : giving_back n ≡ giving_back gives.sync = gives.in_hand in let s : Some n ≡ Some gives.sync = ap sync_in e in cc
@@ -254,7 +254,7 @@ module _ {moment : Moment none_rests} {n : ℕ} (thread_at : ThreadAt moment (gi
       };
     }
 
-    stand' : Stand g r true None left x.state (watched'.lives c t) (told_by g.program g.stimulus x [] x.state).actions branch
+    stand' : RunsBranch g r true None left x.state (watched'.lives c t) (told_by g.program g.stimulus x [] x.state).actions branch
     stand' = record {
       core = stand.core;
       family = stand.family;
@@ -279,17 +279,17 @@ module _ {moment : Moment none_rests} {n : ℕ} (thread_at : ThreadAt moment (gi
           let life : (watched'.lives c t).steps ≡ (w.lives c t).steps + 1 = ap (λ (l : Life). l.steps) (own_life w watched'.machine c t) in
           let none : x.actions r.family + 0 ≡ x.actions r.family = omega arith in
           subst (λ m. (watched'.lives c t).steps + (j + cost g r) ≤ kernel_bound g.program * (m + 1)) (sym none) (omega arith);
-      by = subst (λ m. StandsBy g r true branch.items m (j + cost g r) (record { core = left; world = x.state; hand = None })) (sym mode)
-          (subst (λ o. StandsWith g r true o branch.items (j + cost g r) (record { core = left; world = x.state; hand = None })) (sym none) (inr (inr (j, omega arith, refl, rest'))));
+      by = subst (λ m. ProgressBy g r true branch.items m (j + cost g r) (record { core = left; world = x.state; hand = None })) (sym mode)
+          (subst (λ o. ProgressWith g r true o branch.items (j + cost g r) (record { core = left; world = x.state; hand = None })) (sym none) (inr (inr (j, omega arith, refl, rest'))));
     }
 
-    own_stand : (u : ℕ) → nat_eq u t ≡ true → Stands g (rests_alone c t c u) left x.state (watched'.lives c u) (told_by g.program g.stimulus x [] x.state).actions (who' c u)
+    own_stand : (u : ℕ) → nat_eq u t ≡ true → ThreadRel g (rests_alone c t c u) left x.state (watched'.lives c u) (told_by g.program g.stimulus x [] x.state).actions (who' c u)
     own_stand u m =
         let more = (told_by g.program g.stimulus x [] x.state).actions in
-        subst (λ k. Stands g (rests_alone c t c k) left x.state (watched'.lives c k) more (who' c k)) (sym (eqb-true u t m))
-        (subst (λ b. Stands g b left x.state (watched'.lives c t) more (who' c t)) (sym (rests_there c t))
-        (subst (Stands g true left x.state (watched'.lives c t) more) (sym (role_here who c t (used_by r None)))
-        (subst (λ o. SomeIs o (Stand g r true None left x.state (watched'.lives c t) more)) (sym known) stand')))
+        subst (λ k. ThreadRel g (rests_alone c t c k) left x.state (watched'.lives c k) more (who' c k)) (sym (eqb-true u t m))
+        (subst (λ b. ThreadRel g b left x.state (watched'.lives c t) more (who' c t)) (sym (rests_there c t))
+        (subst (ThreadRel g true left x.state (watched'.lives c t) more) (sym (role_here who c t (used_by r None)))
+        (subst (λ o. SomeIs o (RunsBranch g r true None left x.state (watched'.lives c t) more)) (sym known) stand')))
 
     -- the program does nothing, and all stand so again
     pub resumes_followed : Follows g (rests_alone c t) who w x watched'

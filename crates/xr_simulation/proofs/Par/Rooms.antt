@@ -21,7 +21,7 @@ use Rattle.xr_simulation.specs.Parents.{Parent, sync_before, syncs_of}
 use Rattle.xr_simulation.specs.Roles.{AcquiredFits, IsParent, Role, Roles, empty, got_by, gives_back, opens, unused, used_by}
 use Rattle.xr_simulation.specs.Runners.{Setting, Runner}
 use Rattle.xr_simulation.specs.ThreadViews.{SpareFor, giving_back, held_in, sync_in}
-use Rattle.xr_simulation.specs.Turns.{IsFree, IsFreeThread, IsTiedThread, IsWaitingTied}
+use Rattle.xr_simulation.specs.NextStep.{IsFree, IsFreeThread, IsTiedThread, IsWaitingTied}
 use Rattle.xr_simulation.proofs.Relation.Families.{parent_several, runner_present, some_untied}
 use Rattle.xr_simulation.proofs.Relation.Sums.{among, among_few, among_true, first_behind, named_once, named_true, one_free, one_some, some_named, sum, sum_add, sum_most, sum_one, sum_same, sum_swap, taken_few, taken_in, total_least, total_swap, unused_many}
 use Rattle.xr_simulation.proofs.OwnSteps.Branch.{Crew}

@@ -13,8 +13,8 @@ use Rattle.xc_meaning.specs.States.Items.{Item, does, ends, todo}
 use Rattle.xc_meaning.specs.Uses.{by_items}
 use Rattle.xl_ends.specs.Ends.{codes_in}
 use Rattle.xr_simulation.specs.Runners.{Setting, Runner, footprint_of}
-use Rattle.xr_simulation.specs.Standing.{living_on, one_where}
-use Rattle.xr_simulation.specs.Turns.{AreSetOff, IsSetOff, Placed, backwards_on}
+use Rattle.xr_simulation.specs.MatchStates.{living_on, one_where}
+use Rattle.xr_simulation.specs.NextStep.{AreSetOff, IsSetOff, Placed, backwards_on}
 use Rattle.xr_simulation.proofs.Par.Indices.{index_among, index_further, index_here, index_within}
 use Rattle.xr_simulation.proofs.RelyGuarantee.Footprints.{IsWithin, within_of_uses}
 

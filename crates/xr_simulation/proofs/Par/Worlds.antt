@@ -16,7 +16,7 @@ use Rattle.xc_meaning.specs.States.Items.{Item, does, ends, todo}
 use Rattle.xc_meaning.specs.States.Worlds.{World, go, only_if}
 use Rattle.xl_expr.proofs.Lists.{get_set_other, get_set_same}
 use Rattle.xl_ends.specs.Ends.{Sides, codes_in}
-use Rattle.xr_simulation.specs.Turns.{Placed, Runs, placed_in}
+use Rattle.xr_simulation.specs.NextStep.{Placed, Runs, placed_in}
 
 -- A list with some more behind it, of which one item was written.
 

@@ -23,9 +23,9 @@ use Rattle.xr_simulation.specs.Parents.{Parent, branches_of}
 use Rattle.xr_simulation.specs.Roles.{ParentWaits, ParentsWait, used_by}
 use Rattle.xr_simulation.specs.Runners.{Setting, home}
 use Rattle.xr_simulation.specs.ThreadViews.{LeadsIn, Rely, ThreadView, giving_back}
-use Rattle.xr_simulation.specs.Standing.{HasEnded, IsRun, Stand, StandsBy, StandsWith, none_rests}
+use Rattle.xr_simulation.specs.MatchStates.{HasEnded, IsRun, RunsBranch, ProgressBy, ProgressWith, none_rests}
 use Rattle.xr_simulation.specs.Transfers.{Transfer}
-use Rattle.xr_simulation.specs.Turns.{CannotAct, GivesBack, Joins, Turn, Turns, begins, errs, frees, goes_on, pauses, waits_tied, communicates, puts_out, takes_in}
+use Rattle.xr_simulation.specs.NextStep.{CannotAct, GivesBack, Joins, NextStep, StableNextStep, begins, errs, frees, goes_on, pauses, waits_tied, communicates, puts_out, takes_in}
 use Rattle.xr_simulation.proofs.Par.JoinDecision.{done_each, joins_together}
 use Rattle.xr_simulation.proofs.Relation.Moments.{Moment, ThreadAt, thread_of}
 use Rattle.xr_simulation.proofs.Relation.CoreSteps.{core_of, kept_now, stands_at}
@@ -115,7 +115,7 @@ module _ (moment : Moment none_rests)
     not_made left made h = slots.not_made thread_at quiet left made h
 
     -- so its turn is a pause, or it waits for a word, and the branch waits
-    turn_cannot : (j : ℕ) → r.transfer ≡ None → Turn g r j now → CannotAct g r x.state
+    turn_cannot : (j : ℕ) → r.transfer ≡ None → NextStep g r j now → CannotAct g r x.state
     turn_cannot j none (pauses p cannot) = cannot
     turn_cannot j none (errs h) = absurd (slots.not_trapped thread_at quiet h.kind h.traps)
     turn_cannot j none (goes_on h) = absurd (not_made h.left h.made h.made_is)
@@ -140,11 +140,11 @@ module _ (moment : Moment none_rests)
         (nobody_tied (thread_of moment c t a at_c r (giving_back gives.sync) runs_back)))
 
     -- a branch that runs waits
-    running_still : (items : List Item) (left : ℕ) → StandsBy g r false items runs left now → CannotAct g r x.state
+    running_still : (items : List Item) (left : ℕ) → ProgressBy g r false items runs left now → CannotAct g r x.state
     running_still items left h = by r.transfer refl h
       where
-        by : (o : Option Transfer) → r.transfer ≡ o → StandsWith g r false o items left now → CannotAct g r x.state
-        by None none (inl (n, j, few, on)) = turn_cannot j none (arrived (Turns g r j) n on now here)
+        by : (o : Option Transfer) → r.transfer ≡ o → ProgressWith g r false o items left now → CannotAct g r x.state
+        by None none (inl (n, j, few, on)) = turn_cannot j none (arrived (StableNextStep g r j) n on now here)
         by None none (inr (inl (j, few, gives))) = absurd (not_resuming items j gives)
         by None none (inr (inr h)) = absurd h
         by (Some transfer) its (j, few, h) = inside_cannot moment quiet thread_at transfer its items j h
@@ -160,9 +160,9 @@ module _ (moment : Moment none_rests)
         by n {left} joins both true e = absurd (not_made left None (joins e))
         by n joins both false e = sym both ∙ e
 
-    module _ (branch : Branch) (known : slice_get x.state.branches r.branch ≡ Some branch) (stand : Stand g r false hand a x.state (w.lives c t) x.actions branch) where
+    module _ (branch : Branch) (known : slice_get x.state.branches r.branch ≡ Some branch) (stand : RunsBranch g r false hand a x.state (w.lives c t) x.actions branch) where
       -- the branch that the thread runs
-      own_still : (mode : Mode) → branch.mode ≡ mode → StandsBy g r false branch.items mode stand.left now → IsStill g x.state r.branch
+      own_still : (mode : Mode) → branch.mode ≡ mode → ProgressBy g r false branch.items mode stand.left now → IsStill g x.state r.branch
       own_still runs e h =
           let k = running_still branch.items stand.left h in
           record { goes = k.goes; takes = k.takes; takes_default = k.takes_default }
@@ -182,7 +182,7 @@ module _ (moment : Moment none_rests)
           all_still g x.state _ r.core r.family st.lawful.forest ps p.branch h.1 (waits_on g x.state r.core r.family p r.branch h.0) b m
 
       -- those that wait
-      parents_still : (mode : Mode) → branch.mode ≡ mode → StandsBy g r false branch.items mode stand.left now → (b : ℕ) → IsAmong (branches_of r.parents) b → IsStill g x.state b
+      parents_still : (mode : Mode) → branch.mode ≡ mode → ProgressBy g r false branch.items mode stand.left now → (b : ℕ) → IsAmong (branches_of r.parents) b → IsStill g x.state b
       parents_still runs e h b m = all_still g x.state _ r.core r.family st.lawful.forest r.parents r.branch stand.parents (done_is false (ap has_ended e)) b m
       parents_still (waits from count) e h b m = absurd h
       parents_still ended e h b m = behind_still r.parents refl stand.parents h (ap has_ended e) b m
@@ -193,7 +193,7 @@ module _ (moment : Moment none_rests)
       own_or_parent b (inr m) = parents_still branch.mode refl stand.by b m
 
     -- the branches of a runner, wherever that stands
-    runner_still : (o : Option Branch) → slice_get x.state.branches r.branch ≡ o → SomeIs o (Stand g r false hand a x.state (w.lives c t) x.actions) → (b : ℕ) → (b ≡ r.branch) ⊎ IsAmong (branches_of r.parents) b → IsStill g x.state b
+    runner_still : (o : Option Branch) → slice_get x.state.branches r.branch ≡ o → SomeIs o (RunsBranch g r false hand a x.state (w.lives c t) x.actions) → (b : ℕ) → (b ≡ r.branch) ⊎ IsAmong (branches_of r.parents) b → IsStill g x.state b
     runner_still None known h b m = absurd h
     runner_still (Some branch) known h b m = own_or_parent branch known h b m
 

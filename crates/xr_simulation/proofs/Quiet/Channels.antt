@@ -28,9 +28,9 @@ use Rattle.xl_par.specs.Acquired.{Acquired}
 use Rattle.xr_match.specs.Implements.{IsQuietMachine}
 use Rattle.xr_simulation.specs.Runners.{IsChannel, Runner, Setting, end_place, home}
 use Rattle.xr_simulation.specs.ThreadViews.{ThreadView, running}
-use Rattle.xr_simulation.specs.Standing.{none_rests}
+use Rattle.xr_simulation.specs.MatchStates.{none_rests}
 use Rattle.xr_simulation.specs.Transfers.{GoesWith, IsAwaiting, Transfer, acts_left, items_behind}
-use Rattle.xr_simulation.specs.Turns.{CannotAct, Communicates, InTransfer, IsBehind, Runs, TakesSteps, puts_out, takes_in}
+use Rattle.xr_simulation.specs.NextStep.{CannotAct, Communicates, InTransfer, IsBehind, Runs, TakesSteps, puts_out, takes_in}
 use Rattle.xr_simulation.specs.Wired.{AreSidesOn, IsLine, boxes_in}
 use Rattle.xr_simulation.proofs.Channels.Inboxes.{line_parcels}
 use Rattle.xr_simulation.proofs.Channels.Ends.{end, near_end}
@@ -42,8 +42,8 @@ use Rattle.xr_simulation.proofs.Quiet.Sides.{IsStuck, awaiting_sent, checks_wait
 use Rattle.xr_simulation.proofs.Channels.TransferBegins as begins
 use Rattle.xr_simulation.proofs.Channels.TransferBegins.{core_there, line_there, spot_there}
 use Rattle.xr_simulation.proofs.Channels.Wiring.{wired_inside}
-use Rattle.xr_channels.specs.Phases.{Phase, awaits_ack, between, checks_end, closes, offers, opens, sends_ack, sends_end, spot, streams, was_closed}
-use Rattle.xr_channels.specs.Wires.{Ghosts}
+use Rattle.xr_channels.specs.Phases.{Phase, awaits_ack, between, checks_end, closes, offers, opens, sends_ack, sends_end, side_state, streams, was_closed}
+use Rattle.xr_channels.specs.Channels.{Ghosts}
 use Rattle.xr_channels.proofs.All.Frames.{parcels}
 use Rattle.xr_channels.proofs.All.Near.{NearEnd}
 use Rattle.xr_channels.proofs.All.NearPauses.{Goes, chkct_ack_paused, chkct_end_paused, goes, in_paused}
@@ -132,19 +132,19 @@ module _ (moment : Moment none_rests)
       its_near = near_end thread_at channel side line is_line on_core
 
       -- a step that sends a token goes on
-      one_sent : (f : Phase) → IsPlain f → ghosts.spots line side ≡ spot f false → nat_le 1 its_end.credits ≡ false → ⊥
+      one_sent : (f : Phase) → IsPlain f → ghosts.side_states line side ≡ side_state f false → nat_le 1 its_end.credits ≡ false → ⊥
       one_sent f plain spot_is few =
           let s = each_stuck moment quiet line channel (other_side side) is_line in
           has_credit its_near f s.phase spot_is s.spot_is plain s.plain few
 
       -- and so does one that sends a word, between pieces
-      four_sent : ghosts.spots line side ≡ spot between false → nat_le 4 its_end.credits ≡ false → ⊥
+      four_sent : ghosts.side_states line side ≡ side_state between false → nat_le 4 its_end.credits ≡ false → ⊥
       four_sent spot_is few =
           let s = each_stuck moment quiet line channel (other_side side) is_line in
           has_credits its_near between s.phase spot_is s.spot_is tt s.plain refl few
 
       -- a check of an END goes on
-      end_come : ghosts.spots line side ≡ spot checks_end false → its_end.tokens ≡ [] → ⊥
+      end_come : ghosts.side_states line side ≡ side_state checks_end false → its_end.tokens ≡ [] → ⊥
       end_come spot_is none = let s = each_stuck moment quiet line channel (other_side side) is_line in by s s.stuck
         where
           by : (s : IsStuck moment quiet line channel (other_side side)) →
@@ -155,7 +155,7 @@ module _ (moment : Moment none_rests)
           by s (inr stays) = stays (chkct_end_paused its_near false spot_is none)
 
       -- where no answer comes, the inbox is empty
-      no_answer : (v : ℕ) → ghosts.spots line side ≡ spot (awaits_ack (offers v)) false → its_end.tokens ≡ [] → parcels boxes line side ≡ []
+      no_answer : (v : ℕ) → ghosts.side_states line side ≡ side_state (awaits_ack (offers v)) false → its_end.tokens ≡ [] → parcels boxes line side ≡ []
       no_answer v spot_is none = let s = each_stuck moment quiet line channel (other_side side) is_line in by s s.stuck
         where
           by : (s : IsStuck moment quiet line channel (other_side side)) →
@@ -167,7 +167,7 @@ module _ (moment : Moment none_rests)
               (chkct_ack_paused its_near (offers v) false spot_is none)
 
       -- and where no word comes it is too
-      no_word : ghosts.spots line side ≡ spot between false → take_word its_end.tokens ≡ NotYet → length its_end.tokens < 4 → parcels boxes line side ≡ []
+      no_word : ghosts.side_states line side ≡ side_state between false → take_word its_end.tokens ≡ NotYet → length its_end.tokens < 4 → parcels boxes line side ≡ []
       no_word spot_is slow few =
           in_paused its_near false spot_is slow few
 
@@ -180,7 +180,7 @@ module _ (moment : Moment none_rests)
       line : ℕ
       is_line : IsLine g.program line channel
       on_core : AreSidesOn g.program channel c
-      spot_is : ghosts.spots line side ≡ spot between false
+      spot_is : ghosts.side_states line side ≡ side_state between false
 
     -- where the next item uses the channel, and the thread is inside no transfer
     begins_on : r.transfer ≡ None → (branch : Branch) (items : List Item) → Runs x.state r.branch branch items → (channel : ℕ) (side : Side) → IsChannel g r channel →
@@ -245,7 +245,7 @@ module _ (moment : Moment none_rests)
         is_line : IsLine g.program line channel
         is_line = at.1
 
-        sends_one : (f : Phase) → IsPlain f → ghosts.spots line side ≡ spot f false → (n : ℕ) → Acts (home g r) r.thread (end_place g r channel side) (running r.tie h.pc h.regs) h.pos (sends (control_token n ∷ [])) h.pc h.regs → ⊥
+        sends_one : (f : Phase) → IsPlain f → ghosts.side_states line side ≡ side_state f false → (n : ℕ) → Acts (home g r) r.thread (end_place g r channel side) (running r.tie h.pc h.regs) h.pos (sends (control_token n ∷ [])) h.pc h.regs → ⊥
         sends_one f plain spot_is n acts =
             one_sent channel side line is_line at.2 f plain spot_is
             (sends_wait moment quiet thread_at channel side line is_line at.2 h.pos h.pc h.regs h.here (control_token n ∷ []) acts)
@@ -253,7 +253,7 @@ module _ (moment : Moment none_rests)
         nothing_there : (n : ℕ) → Acts (home g r) r.thread (end_place g r channel side) (running r.tie h.pc h.regs) h.pos (protocol.takes n) h.pc h.regs → (its_end channel side line is_line at.2).tokens ≡ []
         nothing_there n acts = checks_wait moment quiet thread_at channel side line is_line at.2 h.pos h.pc h.regs h.here n acts
 
-        awaits_cannot : (v : ℕ) → ghosts.spots line side ≡ spot (awaits_ack (offers v)) false → (its_end channel side line is_line at.2).tokens ≡ [] → (rest : List Item) → items ≡ awaits channel h.pos ∷ rest → CannotAct g r x.state
+        awaits_cannot : (v : ℕ) → ghosts.side_states line side ≡ side_state (awaits_ack (offers v)) false → (its_end channel side line is_line at.2).tokens ≡ [] → (rest : List Item) → items ≡ awaits channel h.pos ∷ rest → CannotAct g r x.state
         awaits_cannot v spot_is none rest e =
             let runs = subst (Runs x.state r.branch h.has.branch) e h.has.runs in
             answer_cannot g r x.state h.has.branch (awaits channel h.pos) rest runs channel side (stands_on h.has.branch runs.known channel side h.stands_in) (st.plain.outside r.branch h.has.branch runs.known)
@@ -261,7 +261,7 @@ module _ (moment : Moment none_rests)
 
         by : (f : Phase) → GoesWith f channel h.pos items →
             TakesSteps g r channel side h.pos (acts_left f) (IsBehind g r (items_behind transfer.phase items) j) h.pc h.regs →
-            ghosts.spots line side ≡ spot f false → CannotAct g r x.state
+            ghosts.side_states line side ≡ side_state f false → CannotAct g r x.state
         by between goes steps spot_is = absurd goes
         by (sends_end v) goes steps spot_is = absurd (sends_one (sends_end v) tt spot_is 1 steps.0)
         by (awaits_ack (offers v)) goes steps spot_is = awaits_cannot v spot_is (nothing_there 3 steps.0) goes.0 goes.1

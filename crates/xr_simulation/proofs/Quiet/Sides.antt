@@ -22,18 +22,18 @@ use Rattle.xr_match.specs.Implements.{IsQuietMachine}
 use Rattle.xr_simulation.specs.Roles.{used_by}
 use Rattle.xr_simulation.specs.Runners.{Runner, end_place, home}
 use Rattle.xr_simulation.specs.ThreadViews.{ThreadView, running}
-use Rattle.xr_simulation.specs.Standing.{Stand, StandsBy, StandsWith, none_rests}
+use Rattle.xr_simulation.specs.MatchStates.{RunsBranch, ProgressBy, ProgressWith, none_rests}
 use Rattle.xr_simulation.specs.Transfers.{GoesWith, IsAwaiting, StopsIn, Transfer, acts_left, items_behind}
-use Rattle.xr_simulation.specs.Turns.{IsBehind, TakesSteps}
-use Rattle.xr_simulation.specs.Wired.{AreSidesOn, IsLine, IsTransferring, Stance, at_rest, boxes_in, in_piece}
+use Rattle.xr_simulation.specs.NextStep.{IsBehind, TakesSteps}
+use Rattle.xr_simulation.specs.Wired.{AreSidesOn, IsLine, IsTransferring, SideIs, idle, boxes_in, in_transfer}
 use Rattle.xr_simulation.proofs.Channels.Ends.{acts_there, end, end_is, near_end}
 use Rattle.xr_simulation.proofs.Relation.Moments.{Moment, ThreadAt, thread_of}
 use Rattle.xr_simulation.proofs.Relation.CoreSteps.{core_of as the_core, stands_at}
 use Rattle.xr_simulation.proofs.Quiet.Slots.{lacks_credits, lacks_tokens, lacks_word}
 use Rattle.xr_simulation.proofs.Channels.Wiring.{wired_inside}
 use Rattle.xr_simulation.proofs.OwnSteps.Branch.{some_is}
-use Rattle.xr_channels.specs.Phases.{Line, Phase, Spot, awaits_ack, between, checks_end, closes, offers, opens, sends_ack, sends_end, spot, streams, unsent, was_closed}
-use Rattle.xr_channels.specs.Wires.{Ghosts, place}
+use Rattle.xr_channels.specs.Phases.{Direction, Phase, SideState, awaits_ack, between, checks_end, closes, offers, opens, sends_ack, sends_end, side_state, streams, unsent, was_closed}
+use Rattle.xr_channels.specs.Channels.{Ghosts, end_of_side}
 use Rattle.xr_channels.proofs.All.NearPauses.{Goes, MayGo, goes}
 use Rattle.xr_channels.proofs.All.Pauses.{Enabled, may_answer, may_check, may_check_end, may_close, may_end}
 use Rattle.xr_channels.proofs.Sides.Plain.{IsPlain}
@@ -73,7 +73,7 @@ awaiting_sent was_closed h = absurd h
 awaiting_sent streams h = absurd h
 
 -- no row is enabled between pieces
-none_between : (f : Phase) (l : Line) (n : ℕ) → f ≡ between → Enabled f l n → ⊥
+none_between : (f : Phase) (l : Direction) (n : ℕ) → f ≡ between → Enabled f l n → ⊥
 none_between f l n is (may_end v _ _ h) = cc
 none_between f l n is (may_check q _ _ h) = cc
 none_between f l n is (may_check_end _ _ h) = cc
@@ -102,7 +102,7 @@ module _ (moment : Moment none_rests)
     own_end = end thread_at channel side line is_line on_core
 
     abbrev place_end : ℕ
-    place_end = (place (pair_of g.program channel) side).end
+    place_end = (end_of_side (pair_of g.program channel) side).end
 
     abbrev thread : Thread
     thread = running r.tie pc regs
@@ -134,10 +134,10 @@ module _ (moment : Moment none_rests)
         ((acts_so (takes_word to) h).by a own_end here there)
 
     -- so no row of a piece that it is in is enabled
-    none_enabled : (f : Phase) (items : List Item) (Q : ℕ → Regs → Type 0) → GoesWith f channel pos items → TakesSteps g r channel side pos (acts_left f) Q pc regs → ghosts.spots line side ≡ spot f false →
+    none_enabled : (f : Phase) (items : List Item) (Q : ℕ → Regs → Type 0) → GoesWith f channel pos items → TakesSteps g r channel side pos (acts_left f) Q pc regs → ghosts.side_states line side ≡ side_state f false →
         Goes w.machine.cores boxes ghosts line (pair_of g.program channel) side → ⊥
     none_enabled f items Q with_items steps spot_is go = by f with_items steps
-        (goes (near_end thread_at channel side line is_line on_core) f (ap (λ (s : Spot). s.phase) spot_is) go)
+        (goes (near_end thread_at channel side line is_line on_core) f (ap (λ (s : SideState). s.phase) spot_is) go)
       where
         by : (f : Phase) → GoesWith f channel pos items → TakesSteps g r channel side pos (acts_left f) Q pc regs →
             MayGo (near_end thread_at channel side line is_line on_core) f → ⊥
@@ -154,7 +154,7 @@ module _ (moment : Moment none_rests)
   pub record IsStuck (line channel : ℕ) (side : Side) : Type 0 where
     pub phase : Phase
     pub plain : IsPlain phase
-    pub spot_is : ghosts.spots line side ≡ spot phase false
+    pub spot_is : ghosts.side_states line side ≡ side_state phase false
     pub stuck : IsAwaiting phase ⊎ (Goes w.machine.cores boxes ghosts line (pair_of g.program channel) side → ⊥)
 
   -- the side of a thread that is inside a transfer
@@ -164,14 +164,14 @@ module _ (moment : Moment none_rests)
     on_core = (st.wired.listed d u transfer.channel transfer.side (record { runner = r; hand = hand; runs = runs_r; transfer = transfer; is = its; channel_is = refl; side_is = refl })).2
 
     -- and the side stands where the thread does
-    spot_now : ghosts.spots line transfer.side ≡ spot transfer.phase false
+    spot_now : ghosts.side_states line transfer.side ≡ side_state transfer.phase false
     spot_now = wired_inside g who w.machine x.state st.wired d u line r hand transfer runs_r its is_line
 
     abbrev now : ThreadView
     now = record { core = a; world = x.state; hand = hand }
 
     -- one that goes on waits
-    stuck_inside : (items : List Item) (left : ℕ) → StandsWith g r false (Some transfer) items left now → IsStuck line transfer.channel transfer.side
+    stuck_inside : (items : List Item) (left : ℕ) → ProgressWith g r false (Some transfer) items left now → IsStuck line transfer.channel transfer.side
     stuck_inside items left (j, few, h) = record {
       phase = transfer.phase;
       plain = plain_where_goes transfer.phase transfer.channel h.pos items h.goes_with;
@@ -185,16 +185,16 @@ module _ (moment : Moment none_rests)
     stuck_trapped h = record { phase = transfer.phase; plain = plain_where_awaits transfer.phase h; spot_is = spot_now; stuck = inl h }
 
     -- by how its branch is
-    stuck_by : (branch : Branch) → Stand g r false hand a x.state (w.lives d u) x.actions branch → (mode : Mode) → branch.mode ≡ mode → IsStuck line transfer.channel transfer.side
-    stuck_by branch stand runs e = stuck_inside branch.items stand.left (subst (λ o. StandsWith g r false o branch.items stand.left now) its (subst (λ m. StandsBy g r false branch.items m stand.left now) e stand.by))
-    stuck_by branch stand (waits from count) e = absurd (subst (λ m. StandsBy g r false branch.items m stand.left now) e stand.by)
+    stuck_by : (branch : Branch) → RunsBranch g r false hand a x.state (w.lives d u) x.actions branch → (mode : Mode) → branch.mode ≡ mode → IsStuck line transfer.channel transfer.side
+    stuck_by branch stand runs e = stuck_inside branch.items stand.left (subst (λ o. ProgressWith g r false o branch.items stand.left now) its (subst (λ m. ProgressBy g r false branch.items m stand.left now) e stand.by))
+    stuck_by branch stand (waits from count) e = absurd (subst (λ m. ProgressBy g r false branch.items m stand.left now) e stand.by)
     stuck_by branch stand ended e = absurd (none-some transfer (sym (stand.done e) ∙ its))
     stuck_by branch stand erred e = stuck_trapped (subst StopsIn its (stand.stops e))
 
     -- nothing goes on there
     stuck_side : IsStuck line transfer.channel transfer.side
     stuck_side =
-        let s = some_is (Stand g r false hand a x.state (w.lives d u) x.actions) (slice_get x.state.branches r.branch)
+        let s = some_is (RunsBranch g r false hand a x.state (w.lives d u) x.actions) (slice_get x.state.branches r.branch)
         (stands_at moment d u a r hand at_d runs_r) in
         stuck_by s.0 s.2 s.0.mode refl
 
@@ -210,12 +210,12 @@ module _ (moment : Moment none_rests)
   pub each_stuck : (line channel : ℕ) (side : Side) → IsLine g.program line channel → IsStuck line channel side
   each_stuck line channel side is_line = by (st.wired.stances line channel side is_line)
     where
-      by : Stance g who channel side (ghosts.spots line side) (ghosts.late line (other_side side)) → IsStuck line channel side
-      by (in_piece d u i its_core e late) = stuck_of line channel side is_line d u i
-      by (at_rest nobody e late) = record {
+      by : SideIs g who channel side (ghosts.side_states line side) (ghosts.late line (other_side side)) → IsStuck line channel side
+      by (in_transfer d u i its_core e late) = stuck_of line channel side is_line d u i
+      by (idle nobody e late) = record {
         phase = between;
         plain = tt;
         spot_is = e;
         stuck = inr
-            (λ go. none_between _ _ _ (ap (λ (s : Spot). s.phase) e) go);
+            (λ go. none_between _ _ _ (ap (λ (s : SideState). s.phase) e) go);
       }

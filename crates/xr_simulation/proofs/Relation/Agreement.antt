@@ -17,11 +17,11 @@ use Rattle.xc_meaning.specs.States.Worlds.{World, clock, only_if}
 use Rattle.xr_match.specs.Implements.{AgreeNow, AllRootsEnded, ArrivalsAgree, Arrives, ArrivesAt, Begins, IsQuietBehind, QuietAgree, of_data, of_open}
 use Rattle.xr_match.specs.Lives.{Watched}
 use Rattle.xr_match.specs.Meanings.{HasParcel, of_kernel}
-use Rattle.xr_match.specs.Sources.{Told, allowed}
+use Rattle.xr_match.specs.Sources.{Counted, allowed}
 use Rattle.xr_simulation.specs.Images.{IsImageOf}
 use Rattle.xr_simulation.specs.Roles.{Roles}
 use Rattle.xr_simulation.specs.Runners.{Setting}
-use Rattle.xr_simulation.specs.Standing.{IsMade, Standing, none_rests}
+use Rattle.xr_simulation.specs.MatchStates.{IsMade, MatchStates, none_rests}
 use Rattle.xr_simulation.specs.Wired.{IsLine, boxes_in}
 use Rattle.xr_simulation.proofs.Channels.Inboxes.{line_parcels}
 use Rattle.xr_simulation.proofs.Relation.Counts.{living_some, none_living, root_counts}
@@ -29,7 +29,7 @@ use Rattle.xr_simulation.proofs.Relation.Moments.{moment_of}
 use Rattle.xr_simulation.proofs.Quiet.Branches.{quiet_together}
 use Rattle.xr_simulation.proofs.Relation.Lasting.{clock_at, core_at}
 use Rattle.xr_simulation.proofs.Relation.Ticks.{has_acted, stands_after_tick, told_ticked, watched_ticked}
-use Rattle.xr_channels.specs.Wires.{ends_in, place, tokens_at, tokens_in}
+use Rattle.xr_channels.specs.Channels.{ends_in, end_of_side, tokens_at, tokens_in}
 use Rattle.xr_channels.proofs.All.Frames.{parcels}
 use Rattle.xr_channels.proofs.Laws.Ready.{token_has_parcel}
 use Rattle.xr_channels.proofs.Sides.Found.{Has, counts_as_parcel}
@@ -68,11 +68,11 @@ has_token m core end h =
     subst (Has counts_as_parcel) (sym same) (has_at h.of_end.tokens h.place h.token h.stands (begins_parcel h.token h.begins))
 
 -- and at that of a line's side
-has_token_at : (m : Machine) (pair : Pair) (side : Side) → ArrivesAt m pair side → Has counts_as_parcel (tokens_at m.cores (place pair side).core (place pair side).end)
+has_token_at : (m : Machine) (pair : Pair) (side : Side) → ArrivesAt m pair side → Has counts_as_parcel (tokens_at m.cores (end_of_side pair side).core (end_of_side pair side).end)
 has_token_at m pair first h = has_token m pair.core pair.end h
 has_token_at m pair second h = has_token m pair.peer_core pair.peer_end h
 
-module _ (g : Setting) (who : Roles) (w : Watched) (x : Told (of_kernel g.program)) (st : Standing g none_rests who w x) where
+module _ (g : Setting) (who : Roles) (w : Watched) (x : Counted (of_kernel g.program)) (st : MatchStates g none_rests who w x) where
   module _ (over : AllRootsEnded w.machine.cores) where
     -- a root's branch has ended
     root_over : (b : ℕ) (branch : Branch) → slice_get x.state.branches b ≡ Some branch → b < length g.program.roots → has_ended branch.mode ≡ false → ⊥
@@ -137,8 +137,8 @@ module _ (g : Setting) (who : Roles) (w : Watched) (x : Told (of_kernel g.progra
 
 module _ (g : Setting) (who : Roles) (first_roles : Roles) (is : IsImageOf g first_roles) where
   -- A tick of the program is one of the machine, behind which the two stand as before.
-  ticked_by : (w : Watched) (x : Told (of_kernel g.program)) (st : Standing g none_rests who w x) (c : ℕ) (a : CoreState) (at_c : slice_get w.machine.cores c ≡ Some a) (cores : List ℕ) (y : World) →
-      ((w' : Watched) (x' : Told (of_kernel g.program)) → Standing g none_rests who w' x' → IsQuietBehind g.image g.stimulus w'.machine cores → allowed (of_kernel g.program) g.stimulus x'.state (map clock cores) ≡ Some y → IsQuiet g.program g.stimulus y) →
+  ticked_by : (w : Watched) (x : Counted (of_kernel g.program)) (st : MatchStates g none_rests who w x) (c : ℕ) (a : CoreState) (at_c : slice_get w.machine.cores c ≡ Some a) (cores : List ℕ) (y : World) →
+      ((w' : Watched) (x' : Counted (of_kernel g.program)) → MatchStates g none_rests who w' x' → IsQuietBehind g.image g.stimulus w'.machine cores → allowed (of_kernel g.program) g.stimulus x'.state (map clock cores) ≡ Some y → IsQuiet g.program g.stimulus y) →
       IsQuietBehind g.image g.stimulus w.machine (c ∷ cores) → allowed (of_kernel g.program) g.stimulus x.state (clock c ∷ map clock cores) ≡ Some y →
       (below : Bool) → nat_lt a.clock last_clock ≡ below → IsQuiet g.program g.stimulus y
   ticked_by w x st c a at_c cores y next still e true lt =
@@ -157,8 +157,8 @@ module _ (g : Setting) (who : Roles) (first_roles : Roles) (is : IsImageOf g fir
       nothing : ◌≡◌ {A = Option World} None (Some y) → ⊥
       nothing f = cc
 
-  ticks_by : (w : Watched) (x : Told (of_kernel g.program)) (st : Standing g none_rests who w x) (c : ℕ) (cores : List ℕ) (y : World) →
-      ((w' : Watched) (x' : Told (of_kernel g.program)) → Standing g none_rests who w' x' → IsQuietBehind g.image g.stimulus w'.machine cores → allowed (of_kernel g.program) g.stimulus x'.state (map clock cores) ≡ Some y → IsQuiet g.program g.stimulus y) →
+  ticks_by : (w : Watched) (x : Counted (of_kernel g.program)) (st : MatchStates g none_rests who w x) (c : ℕ) (cores : List ℕ) (y : World) →
+      ((w' : Watched) (x' : Counted (of_kernel g.program)) → MatchStates g none_rests who w' x' → IsQuietBehind g.image g.stimulus w'.machine cores → allowed (of_kernel g.program) g.stimulus x'.state (map clock cores) ≡ Some y → IsQuiet g.program g.stimulus y) →
       IsQuietBehind g.image g.stimulus w.machine (c ∷ cores) → allowed (of_kernel g.program) g.stimulus x.state (clock c ∷ map clock cores) ≡ Some y →
       (o : Option CoreState) → slice_get w.machine.cores c ≡ o → IsQuiet g.program g.stimulus y
   ticks_by w x st c cores y next still e (Some a) at_c = ticked_by w x st c a at_c cores y next still e (nat_lt a.clock last_clock) refl
@@ -169,11 +169,11 @@ module _ (g : Setting) (who : Roles) (first_roles : Roles) (is : IsImageOf g fir
       nothing : ◌≡◌ {A = Option World} None (Some y) → ⊥
       nothing f = cc
 
-  quiet_behind : (cores : List ℕ) (y : World) (w : Watched) (x : Told (of_kernel g.program)) → Standing g none_rests who w x → IsQuietBehind g.image g.stimulus w.machine cores → allowed (of_kernel g.program) g.stimulus x.state (map clock cores) ≡ Some y → IsQuiet g.program g.stimulus y
+  quiet_behind : (cores : List ℕ) (y : World) (w : Watched) (x : Counted (of_kernel g.program)) → MatchStates g none_rests who w x → IsQuietBehind g.image g.stimulus w.machine cores → allowed (of_kernel g.program) g.stimulus x.state (map clock cores) ≡ Some y → IsQuiet g.program g.stimulus y
   quiet_behind [] y w x st still e = subst (IsQuiet g.program g.stimulus) (same_Some _ _ e)
       (quiet_together (moment_of g first_roles is who w x st) (still.quiet w.machine refl))
   quiet_behind (c ∷ cores) y w x st still e = ticks_by w x st c cores y (quiet_behind cores y) still e (slice_get w.machine.cores c) refl
 
 -- where the machine is quiet behind some ticks, so is the program
-pub quiet_agree : (g : Setting) (who : Roles) (w : Watched) (x : Told (of_kernel g.program)) → Standing g none_rests who w x → (first_roles : Roles) → IsImageOf g first_roles → QuietAgree g.image (of_kernel g.program) g.stimulus w.machine x.state
+pub quiet_agree : (g : Setting) (who : Roles) (w : Watched) (x : Counted (of_kernel g.program)) → MatchStates g none_rests who w x → (first_roles : Roles) → IsImageOf g first_roles → QuietAgree g.image (of_kernel g.program) g.stimulus w.machine x.state
 quiet_agree g who w x st first_roles is cores still y e = quiet_behind g who first_roles is cores y w x st still e

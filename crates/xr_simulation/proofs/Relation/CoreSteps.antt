@@ -16,13 +16,13 @@ use Rattle.xl_par.specs.Acquired.{Acquired, IsAmong}
 use Rattle.xr_match.specs.Implements.{clock_of}
 use Rattle.xr_match.specs.Lives.{Life, Watched}
 use Rattle.xr_match.specs.Meanings.{of_kernel}
-use Rattle.xr_match.specs.Sources.{Told}
+use Rattle.xr_match.specs.Sources.{Counted}
 use Rattle.xr_simulation.specs.Parents.{Parent, branches_of, sync_before, syncs_of}
 use Rattle.xr_simulation.specs.Roles.{AreRoles, AreUsedSo, HasReserves, IsParent, ParentsWait, Role, Roles, got_by, own_branches, unused, used_by}
 use Rattle.xr_simulation.specs.Runners.{IsMine, Setting, Runner, IsLaidOut, MayChange}
 use Rattle.xr_simulation.specs.Sizes.{sizes_in, sizes_of}
 use Rattle.xr_simulation.specs.ThreadViews.{Owns, Rely, SpareFor, ThreadView, sync_in}
-use Rattle.xr_simulation.specs.Standing.{AreLoose, IsMade, IsRun, Standing, Stands, living_on}
+use Rattle.xr_simulation.specs.MatchStates.{AreLoose, IsMade, IsRun, MatchStates, ThreadRel, living_on}
 use Rattle.xr_simulation.specs.Transfers.{Transfer}
 use Rattle.xr_simulation.specs.Wired.{AreWired, HasAlone}
 use Rattle.xr_simulation.proofs.Channels.OwnSide.{alone_behind}
@@ -59,7 +59,7 @@ other_same w w' d e same at = (e, same ∙ at, record { is = refl })
 
 -- Of some threads of the core it is shown how they stand; the others have the roles that they had, and what their runners stand on is kept.
 pub record IsNextStanding
-    (g : Setting) (may_rest may_rest' : (core thread : ℕ) → Bool) (who who' : Roles) (w w' : Watched) (x : Told (of_kernel g.program))
+    (g : Setting) (may_rest may_rest' : (core thread : ℕ) → Bool) (who who' : Roles) (w w' : Watched) (x : Counted (of_kernel g.program))
     (c : ℕ) (a b : CoreState) (moved : (thread : ℕ) → Bool) (piece : List Action) (y : World) : Type 0 where
   pub acted : acts_all g.program g.stimulus (Some x.state) piece ≡ Some y
   pub clocks : map clock_of w'.machine.cores ≡ y.clocks
@@ -74,7 +74,7 @@ pub record IsNextStanding
   pub steps : (t : ℕ) → moved t ≡ false → (w'.lives c t).steps ≡ (w.lives c t).steps
   pub far_steps : (d t : ℕ) → d ≢ c → (w'.lives d t).steps ≡ (w.lives d t).steps
   pub stand : (t : ℕ) → moved t ≡ true →
-      Stands g (may_rest' c t) b y (w'.lives c t) (told_by g.program g.stimulus x piece y).actions (who' c t)
+      ThreadRel g (may_rest' c t) b y (w'.lives c t) (told_by g.program g.stimulus x piece y).actions (who' c t)
   pub rely : (t : ℕ) (s : Runner) (hand : Option Acquired) → moved t ≡ false → who c t ≡ used_by s hand →
       Rely g s (record { core = a; world = x.state; hand = hand }) (record { core = b; world = y; hand = hand })
   pub far_rely : (d t : ℕ) (e : CoreState) (s : Runner) (hand : Option Acquired) → d ≢ c → slice_get w.machine.cores d ≡ Some e → who d t ≡ used_by s hand →
@@ -96,7 +96,7 @@ role_still : (g : Setting) (rests rests' : Bool) (a b : CoreState) (x y : World)
     (role : Role) → (rests ≡ true → rests' ≡ true) →
     ((s : Runner) (hand : Option Acquired) → role ≡ used_by s hand →
     Rely g s (record { core = a; world = x; hand = hand }) (record { core = b; world = y; hand = hand })) → life'.steps ≡ life.steps →
-    ((f : ℕ) → actions f ≤ more f) → Stands g rests a x life actions role → Stands g rests' b y life' more role
+    ((f : ℕ) → actions f ≤ more f) → ThreadRel g rests a x life actions role → ThreadRel g rests' b y life' more role
 role_still g rests rests' a b x y life life' actions more unused may k same le h = h
 role_still g rests rests' a b x y life life' actions more (got_by t) may k same le h = same ∙ h
 role_still g rests rests' a b x y life life' actions more (used_by s hand) may k same le h = runner_still g s rests rests' hand a b x y life life' actions more may (k s hand refl) same le h
@@ -163,10 +163,10 @@ channel_known g who m x wired d u s hand transfer is its =
     line_known g.program k.0 transfer.channel k.1
 
 -- then the two sides stand so again
-pub moves : (g : Setting) (may_rest may_rest' : (core thread : ℕ) → Bool) (who who' : Roles) (w w' : Watched) (x : Told (of_kernel g.program))
+pub moves : (g : Setting) (may_rest may_rest' : (core thread : ℕ) → Bool) (who who' : Roles) (w w' : Watched) (x : Counted (of_kernel g.program))
     (c : ℕ) (a b : CoreState) (moved : (thread : ℕ) → Bool) (piece : List Action) (y : World) →
-    Standing g may_rest who w x → HasStepped w w' c a b → IsNextStanding g may_rest may_rest' who who' w w' x c a b moved piece y →
-    Standing g may_rest' who' w' (told_by g.program g.stimulus x piece y)
+    MatchStates g may_rest who w x → HasStepped w w' c a b → IsNextStanding g may_rest may_rest' who who' w w' x c a b moved piece y →
+    MatchStates g may_rest' who' w' (told_by g.program g.stimulus x piece y)
 moves g may_rest may_rest' who who' w w' x c a b moved piece y st step next =
     let more : ℕ → ℕ = (told_by g.program g.stimulus x piece y).actions in
     record {
@@ -186,8 +186,8 @@ moves g may_rest may_rest' who who' w w' x c a b moved piece y st step next =
           (cases_eq d c);
       threads = λ d t e at.
           ⊎_elim
-          (λ (h : d ≡ c). subst (λ k. Stands g (may_rest' k t) e y (w'.lives k t) more (who' k t)) (sym h)
-          (subst (λ f. Stands g (may_rest' c t) f y (w'.lives c t) more (who' c t)) (is_b d e h at) (here t)))
+          (λ (h : d ≡ c). subst (λ k. ThreadRel g (may_rest' k t) e y (w'.lives k t) more (who' k t)) (sym h)
+          (subst (λ f. ThreadRel g (may_rest' c t) f y (w'.lives c t) more (who' c t)) (is_b d e h at) (here t)))
           (λ (ne : d ≢ c). let o = far d e ne at in there d t o.0 e ne o.1 o.2)
           (cases_eq d c);
       loose = λ d e at some.
@@ -237,29 +237,29 @@ moves g may_rest may_rest' who who' w w' x c a b moved piece y st step next =
 
     -- a thread of another core
     there : (d t : ℕ) (e f : CoreState) → d ≢ c → slice_get w.machine.cores d ≡ Some e → IsSameButEnds e f →
-        Stands g (may_rest' d t) f y (w'.lives d t) (told_by g.program g.stimulus x piece y).actions (who' d t)
+        ThreadRel g (may_rest' d t) f y (w'.lives d t) (told_by g.program g.stimulus x piece y).actions (who' d t)
     there d t e f ne at same =
-        subst (Stands g (may_rest' d t) f y (w'.lives d t) (told_by g.program g.stimulus x piece y).actions) (sym (next.far_role d t ne))
+        subst (ThreadRel g (may_rest' d t) f y (w'.lives d t) (told_by g.program g.stimulus x piece y).actions) (sym (next.far_role d t ne))
         (role_still g (may_rest d t) (may_rest' d t) e f x.state y (w.lives d t) (w'.lives d t) x.actions
         (told_by g.program g.stimulus x piece y).actions (who d t) (next.far_rests d t ne)
         (λ s hand is. kept_ends g s (record { core = e; world = x.state; hand = hand }) e f y hand same
         (next.far_rely d t e s hand ne at is)) (next.far_steps d t ne) not_less (st.threads d t e at))
 
     -- a thread of this core, by whether it is one of those that are shown
-    by_moved : (t : ℕ) (m : Bool) → moved t ≡ m → Stands g (may_rest' c t) b y (w'.lives c t) (told_by g.program g.stimulus x piece y).actions (who' c t)
+    by_moved : (t : ℕ) (m : Bool) → moved t ≡ m → ThreadRel g (may_rest' c t) b y (w'.lives c t) (told_by g.program g.stimulus x piece y).actions (who' c t)
     by_moved t true m = next.stand t m
     by_moved t false m =
-        subst (Stands g (may_rest' c t) b y (w'.lives c t) (told_by g.program g.stimulus x piece y).actions) (sym (next.same_role t m))
+        subst (ThreadRel g (may_rest' c t) b y (w'.lives c t) (told_by g.program g.stimulus x piece y).actions) (sym (next.same_role t m))
         (role_still g (may_rest c t) (may_rest' c t) a b x.state y (w.lives c t) (w'.lives c t) x.actions (told_by g.program g.stimulus x piece y).actions (who c t) (next.rests t m) (λ s hand is. next.rely t s hand m is) (next.steps t m) not_less (st.threads c t a step.was))
 
-    here : (t : ℕ) → Stands g (may_rest' c t) b y (w'.lives c t) (told_by g.program g.stimulus x piece y).actions (who' c t)
+    here : (t : ℕ) → ThreadRel g (may_rest' c t) b y (w'.lives c t) (told_by g.program g.stimulus x piece y).actions (who' c t)
     here t = by_moved t (moved t) refl
 
     -- a branch whose thread is inside a transfer, and which is what it was, has its side for itself still
     alone_kept : (d u : ℕ) (e : CoreState) (s : Runner) (hand : Option Acquired) (transfer : Transfer) → slice_get w.machine.cores d ≡ Some e → who d u ≡ used_by s hand → s.transfer ≡ Some transfer →
         slice_get y.branches s.branch ≡ slice_get x.state.branches s.branch → HasAlone y.branches transfer.channel transfer.side s.branch
     alone_kept d u e s hand transfer at is its same =
-        let works = works_of g s (may_rest d u) hand e x.state (w.lives d u) x.actions (subst (Stands g (may_rest d u) e x.state (w.lives d u) x.actions) is (st.threads d u e at)) in
+        let works = works_of g s (may_rest d u) hand e x.state (w.lives d u) x.actions (subst (ThreadRel g (may_rest d u) e x.state (w.lives d u) x.actions) is (st.threads d u e at)) in
         alone_behind transfer.channel transfer.side g x.state st.lawful
         (channel_known g who w.machine x.state st.wired d u s hand transfer is its) s.branch works.branch works.branch works.known
         (st.alone d u s hand transfer is its)
@@ -344,8 +344,8 @@ module _ {may_rest : (core thread : ℕ) → Bool} (moment : Moment may_rest) wh
       core_at w.machine.cores d (omega arith)
 
   -- how a runner's thread stands
-  pub stands_at : (d u : ℕ) (e : CoreState) (s : Runner) (other : Option Acquired) → slice_get w.machine.cores d ≡ Some e → who d u ≡ used_by s other → Stands g (may_rest d u) e x.state (w.lives d u) x.actions (used_by s other)
-  stands_at d u e s other at runs_s = subst (Stands g (may_rest d u) e x.state (w.lives d u) x.actions) runs_s (st.threads d u e at)
+  pub stands_at : (d u : ℕ) (e : CoreState) (s : Runner) (other : Option Acquired) → slice_get w.machine.cores d ≡ Some e → who d u ≡ used_by s other → ThreadRel g (may_rest d u) e x.state (w.lives d u) x.actions (used_by s other)
+  stands_at d u e s other at runs_s = subst (ThreadRel g (may_rest d u) e x.state (w.lives d u) x.actions) runs_s (st.threads d u e at)
 
   pub works_at : (d u : ℕ) (s : Runner) (other : Option Acquired) → who d u ≡ used_by s other → Works g x.state s other
   works_at d u s other runs_s =

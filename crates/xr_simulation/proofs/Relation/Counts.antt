@@ -6,8 +6,8 @@ use Rattle.xc_meaning.specs.Counts.Families.{counted_for, family_at, family_of_b
 use Rattle.xc_meaning.specs.States.Branches.{Birth, Branch, has_ended, all_ended}
 use Rattle.xc_meaning.specs.States.Worlds.{World, Action}
 use Rattle.xr_simulation.specs.Runners.{Setting}
-use Rattle.xr_simulation.specs.Standing.{counts, is_of_root, living_on, one_where}
-use Rattle.xr_simulation.specs.Turns.{OwnAction, own_default, own_go, own_take}
+use Rattle.xr_simulation.specs.MatchStates.{counts, is_of_root, living_on, one_where}
+use Rattle.xr_simulation.specs.NextStep.{OwnAction, own_default, own_go, own_take}
 
 -- one branch changes
 pub living_after : (c : ℕ) (bs : List Branch) (b : ℕ) (old new : Branch) → slice_get bs b ≡ Some old → living_on c (slice_set bs b new) + counts c old ≡ living_on c bs + counts c new

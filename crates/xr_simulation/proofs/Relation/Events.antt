@@ -16,11 +16,11 @@ use Rattle.xl_par.specs.Acquired.{Acquired}
 use Rattle.xr_match.specs.Implements.{clock_of}
 use Rattle.xr_match.specs.Lives.{Life, Watched, watched_after}
 use Rattle.xr_match.specs.Meanings.{of_kernel}
-use Rattle.xr_match.specs.Sources.{Told}
+use Rattle.xr_match.specs.Sources.{Counted}
 use Rattle.xr_simulation.specs.Roles.{AreRoles, AreUsedSo, HasReserves, Roles, used_by}
 use Rattle.xr_simulation.specs.Runners.{Setting, Runner}
 use Rattle.xr_simulation.specs.Sizes.{sizes_of}
-use Rattle.xr_simulation.specs.Standing.{AreLoose, IsMade, IsRun, Standing, Stands, living_on}
+use Rattle.xr_simulation.specs.MatchStates.{AreLoose, IsMade, IsRun, MatchStates, ThreadRel, living_on}
 use Rattle.xr_simulation.specs.Transfers.{Transfer}
 use Rattle.xr_simulation.specs.Wired.{AreWired, HasAlone}
 use Rattle.xr_simulation.proofs.Lives.OwnLife.{far_life, other_life}
@@ -34,7 +34,7 @@ use Rattle.xr_simulation.proofs.OwnSteps.Branch.{Crew, HasOwnThread, Works, own_
 -- What is to be shown of an event of a runner of core c, beside what it leaves of others: of the threads that it moves how they stand, and what
 -- the core and the program are then.
 pub record IsAnswered
-    (g : Setting) (may_rest may_rest' : (core thread : ℕ) → Bool) (who who' : Roles) (w w' : Watched) (x : Told (of_kernel g.program))
+    (g : Setting) (may_rest may_rest' : (core thread : ℕ) → Bool) (who who' : Roles) (w w' : Watched) (x : Counted (of_kernel g.program))
     (c : ℕ) (b : CoreState) (moved : (thread : ℕ) → Bool) (piece : List Action) (y : World) : Type 0 where
   pub acted : acts_all g.program g.stimulus (Some x.state) piece ≡ Some y
   pub clocks : map clock_of w'.machine.cores ≡ y.clocks
@@ -49,7 +49,7 @@ pub record IsAnswered
   pub steps : (u : ℕ) → moved u ≡ false → (w'.lives c u).steps ≡ (w.lives c u).steps
   pub far_steps : (d u : ℕ) → d ≢ c → (w'.lives d u).steps ≡ (w.lives d u).steps
   pub stand : (u : ℕ) → moved u ≡ true →
-      Stands g (may_rest' c u) b y (w'.lives c u) (told_by g.program g.stimulus x piece y).actions (who' c u)
+      ThreadRel g (may_rest' c u) b y (w'.lives c u) (told_by g.program g.stimulus x piece y).actions (who' c u)
   pub links : w'.machine.links ≡ no_links
   pub wired : AreWired g who' w'.machine y
   pub alone : (u : ℕ) (s : Runner) (hand : Option Acquired) (transfer : Transfer) → moved u ≡ true → who' c u ≡ used_by s hand → s.transfer ≡ Some transfer →
@@ -109,13 +109,13 @@ module _ {may_rest : (core thread : ℕ) → Bool} {moment : Moment may_rest} {h
     works_by : (u : ℕ) (s : Runner) (other : Option Acquired) → who' c u ≡ used_by s other → (m : Bool) → moved u ≡ m → Works g y s other
     works_by u s other runs_s true m =
         let actions = (told_by g.program g.stimulus x piece y).actions in
-        works_of g s (may_rest' c u) other b y (w'.lives c u) actions (subst (Stands g (may_rest' c u) b y (w'.lives c u) actions) runs_s (answer.stand u m))
+        works_of g s (may_rest' c u) other b y (w'.lives c u) actions (subst (ThreadRel g (may_rest' c u) b y (w'.lives c u) actions) runs_s (answer.stand u m))
     works_by u s other runs_s false m = works_behind u s other m (sym (answer.same_role u m) ∙ runs_s)
 
     thread_by : (u : ℕ) (s : Runner) (other : Option Acquired) → who' c u ≡ used_by s other → (m : Bool) → moved u ≡ m → HasOwnThread b s
     thread_by u s other runs_s true m =
         let actions = (told_by g.program g.stimulus x piece y).actions in
-        own_thread_of g s (may_rest' c u) other b y (w'.lives c u) actions (subst (Stands g (may_rest' c u) b y (w'.lives c u) actions) runs_s (answer.stand u m))
+        own_thread_of g s (may_rest' c u) other b y (w'.lives c u) actions (subst (ThreadRel g (may_rest' c u) b y (w'.lives c u) actions) runs_s (answer.stand u m))
     thread_by u s other runs_s false m = thread_behind u s other m (sym (answer.same_role u m) ∙ runs_s)
 
     -- what is known of the core's runners behind it
@@ -131,7 +131,7 @@ module _ {may_rest : (core thread : ℕ) → Bool} {moment : Moment may_rest} {h
       few = is.few c lt;
     }
 
-    pub answered : Standing g may_rest' who' w' (told_by g.program g.stimulus x piece y)
+    pub answered : MatchStates g may_rest' who' w' (told_by g.program g.stimulus x piece y)
     answered =
         let lt = st.roles.there c t r hand runs_r in
         moves g may_rest may_rest' who who' w w' x c a b moved piece y st step (record {

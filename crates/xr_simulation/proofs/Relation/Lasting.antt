@@ -17,14 +17,14 @@ use Rattle.xl_expr.proofs.Lists.{get_set_same, get_set_other}
 use Rattle.xl_par.specs.Acquired.{Acquired, IsAmong}
 use Rattle.xr_match.specs.Lives.{Life, Watched}
 use Rattle.xr_match.specs.Meanings.{of_kernel}
-use Rattle.xr_match.specs.Sources.{Told}
+use Rattle.xr_match.specs.Sources.{Counted}
 use Rattle.xr_match.specs.Systems.{SomeIs}
 use Rattle.xr_simulation.specs.Living.{AreNamed}
 use Rattle.xr_simulation.specs.Parents.{Parent, branches_of}
 use Rattle.xr_simulation.specs.Roles.{ParentWaits, ParentsWait, Roles, used_by}
 use Rattle.xr_simulation.specs.Runners.{Setting, Runner}
 use Rattle.xr_simulation.specs.ThreadViews.{IsStable, Rely, ThreadView}
-use Rattle.xr_simulation.specs.Standing.{HasEnded, HasThread, IfTrue, IsAtRest, IsOnItsWay, IsResuming, Stand, Standing, Stands, StandsBy, StandsWith}
+use Rattle.xr_simulation.specs.MatchStates.{HasEnded, HasThread, IfTrue, IsAtRest, IsOnItsWay, IsResuming, RunsBranch, MatchStates, ThreadRel, ProgressBy, ProgressWith}
 use Rattle.xr_simulation.specs.Transfers.{Transfer}
 use Rattle.xr_simulation.proofs.RelyGuarantee.ThreadViews.{joining_stable}
 use Rattle.xr_simulation.proofs.RelyGuarantee.Layouts.{at_rest_stable, on_its_way_stable, resuming_stable, transferring_stable}
@@ -49,17 +49,17 @@ there_then F G None f h = h
 there_then F G (Some y) f h = f y h
 
 -- the state and the counts behind a piece of the program's run
-abbrev pub told_by : (K : kernel.Kernel) → Stim → Told (of_kernel K) → List Action → World → Told (of_kernel K)
+abbrev pub told_by : (K : kernel.Kernel) → Stim → Counted (of_kernel K) → List Action → World → Counted (of_kernel K)
 told_by K s x piece y = record { state = y; actions = λ f. x.actions f + steps_of K s f (Some x.state) piece }
 
 -- A piece of the program's run leads to where the two sides stand so again; some threads may be at rest there. Where lives were named by the roles
 -- before, they are so by those behind it.
-pub record Follows (g : Setting) (may_rest : (core thread : ℕ) → Bool) (old : Roles) (before : Watched) (x : Told (of_kernel g.program)) (w : Watched) : Type 0 where
+pub record Follows (g : Setting) (may_rest : (core thread : ℕ) → Bool) (old : Roles) (before : Watched) (x : Counted (of_kernel g.program)) (w : Watched) : Type 0 where
   pub who : Roles
   pub piece : List Action
   pub world : World
   pub acted : acts_all g.program g.stimulus (Some x.state) piece ≡ Some world
-  pub standing : Standing g may_rest who w (told_by g.program g.stimulus x piece world)
+  pub standing : MatchStates g may_rest who w (told_by g.program g.stimulus x piece world)
   pub named : AreNamed g old before x → AreNamed g who w (told_by g.program g.stimulus x piece world)
 
 module _ (g : Setting) (r : Runner) where
@@ -73,7 +73,7 @@ module _ (g : Setting) (r : Runner) where
   has_ended_stable (p ∷ ps) left z y k h = joining_stable g r p ps left z y k h
 
   -- by whether it is inside a transfer
-  stands_with_still : (may_rest : Bool) (transfer : Option Transfer) (items : List Item) (left : ℕ) → IsStable g r (StandsWith g r may_rest transfer items left)
+  stands_with_still : (may_rest : Bool) (transfer : Option Transfer) (items : List Item) (left : ℕ) → IsStable g r (ProgressWith g r may_rest transfer items left)
   stands_with_still may_rest None items left z y k h =
       ⊎_elim
       (λ (on : IsOnItsWay g r left z). inl (on_its_way_stable g r left z y k on))
@@ -86,7 +86,7 @@ module _ (g : Setting) (r : Runner) where
   stands_with_still may_rest (Some transfer) items left z y k h = transferring_stable g r transfer items left z y k h
 
   -- what a branch's runner stands on is kept, so it stands as before
-  pub stands_by_still : (may_rest : Bool) (items : List Item) (mode : Mode) (left : ℕ) → IsStable g r (StandsBy g r may_rest items mode left)
+  pub stands_by_still : (may_rest : Bool) (items : List Item) (mode : Mode) (left : ℕ) → IsStable g r (ProgressBy g r may_rest items mode left)
   stands_by_still may_rest items runs left z y k h = stands_with_still may_rest r.transfer items left z y k h
   stands_by_still may_rest items (waits from count) left z y k h = h
   stands_by_still may_rest items ended left z y k h = has_ended_stable r.parents left z y k h
@@ -94,15 +94,15 @@ module _ (g : Setting) (r : Runner) where
 
   -- more threads may be at rest
   rests_more_with : (a b : Bool) (transfer : Option Transfer) (items : List Item) (left : ℕ) (z : ThreadView) → (a ≡ true → b ≡ true) →
-      StandsWith g r a transfer items left z → StandsWith g r b transfer items left z
+      ProgressWith g r a transfer items left z → ProgressWith g r b transfer items left z
   rests_more_with false b None items left z le (inl h) = inl h
   rests_more_with false b None items left z le (inr (inl h)) = inr (inl h)
   rests_more_with false b None items left z le (inr (inr h)) = absurd h
-  rests_more_with true b None items left z le h = subst (λ c. StandsWith g r c None items left z) (sym (le refl)) h
+  rests_more_with true b None items left z le h = subst (λ c. ProgressWith g r c None items left z) (sym (le refl)) h
   rests_more_with a b (Some transfer) items left z le h = h
 
   pub rests_more : (a b : Bool) (items : List Item) (mode : Mode) (left : ℕ) (z : ThreadView) → (a ≡ true → b ≡ true) →
-      StandsBy g r a items mode left z → StandsBy g r b items mode left z
+      ProgressBy g r a items mode left z → ProgressBy g r b items mode left z
   rests_more a b items runs left z le h = rests_more_with a b r.transfer items left z le h
   rests_more a b items (waits from count) left z le h = h
   rests_more a b items ended left z le h = h
@@ -144,7 +144,7 @@ module _ (g : Setting) (r : Runner) where
   pub stand_still : (rests rests' : Bool) (hand : Option Acquired) (a b : CoreState) (x y : World) (life life' : Life) (actions more : ℕ → ℕ)
       (branch : Branch) → (rests ≡ true → rests' ≡ true) →
       Rely g r (record { core = a; world = x; hand = hand }) (record { core = b; world = y; hand = hand }) → life'.steps ≡ life.steps →
-      ((f : ℕ) → actions f ≤ more f) → Stand g r rests hand a x life actions branch → Stand g r rests' hand b y life' more branch
+      ((f : ℕ) → actions f ≤ more f) → RunsBranch g r rests hand a x life actions branch → RunsBranch g r rests' hand b y life' more branch
   stand_still rests rests' hand a b x y life life' actions more branch may k as_long le h =
       let z : ThreadView = record { core = a; world = x; hand = hand } in
       let z' : ThreadView = record { core = b; world = y; hand = hand } in
@@ -176,11 +176,11 @@ module _ (g : Setting) (r : Runner) where
   pub runner_still : (rests rests' : Bool) (hand : Option Acquired) (a b : CoreState) (x y : World) (life life' : Life)
       (actions more : ℕ → ℕ) → (rests ≡ true → rests' ≡ true) →
       Rely g r (record { core = a; world = x; hand = hand }) (record { core = b; world = y; hand = hand }) → life'.steps ≡ life.steps →
-      ((f : ℕ) → actions f ≤ more f) → Stands g rests a x life actions (used_by r hand) → Stands g rests' b y life' more (used_by r hand)
+      ((f : ℕ) → actions f ≤ more f) → ThreadRel g rests a x life actions (used_by r hand) → ThreadRel g rests' b y life' more (used_by r hand)
   runner_still rests rests' hand a b x y life life' actions more may k as_long le h =
-      subst (λ o. SomeIs o (Stand g r rests' hand b y life' more)) (sym k.branch)
-      (there_then (Stand g r rests hand a x life actions) (Stand g r rests' hand b y life' more) (slice_get x.branches r.branch) (λ branch. stand_still rests rests' hand a b x y life life' actions more branch may k as_long le) h)
+      subst (λ o. SomeIs o (RunsBranch g r rests' hand b y life' more)) (sym k.branch)
+      (there_then (RunsBranch g r rests hand a x life actions) (RunsBranch g r rests' hand b y life' more) (slice_get x.branches r.branch) (λ branch. stand_still rests rests' hand a b x y life life' actions more branch may k as_long le) h)
 
 -- the program's clock of a core
-pub clock_at : (g : Setting) (may_rest : (core thread : ℕ) → Bool) (who : Roles) (w : Watched) (x : Told (of_kernel g.program)) (c : ℕ) (a : CoreState) → Standing g may_rest who w x → slice_get w.machine.cores c ≡ Some a → slice_get x.state.clocks c ≡ Some a.clock
+pub clock_at : (g : Setting) (may_rest : (core thread : ℕ) → Bool) (who : Roles) (w : Watched) (x : Counted (of_kernel g.program)) (c : ℕ) (a : CoreState) → MatchStates g may_rest who w x → slice_get w.machine.cores c ≡ Some a → slice_get x.state.clocks c ≡ Some a.clock
 clock_at g may_rest who w x c a st at_c = rw (← st.clocks, slice_get-map, at_c)

@@ -6,11 +6,11 @@ use Rattle.xc_meaning.specs.States.Branches.{Branch}
 use Rattle.xl_par.specs.Acquired.{Acquired}
 use Rattle.xr_match.specs.Lives.{Watched}
 use Rattle.xr_match.specs.Meanings.{of_kernel}
-use Rattle.xr_match.specs.Sources.{Told}
+use Rattle.xr_match.specs.Sources.{Counted}
 use Rattle.xr_simulation.specs.Images.{IsImageOf}
 use Rattle.xr_simulation.specs.Roles.{Roles, used_by}
 use Rattle.xr_simulation.specs.Runners.{Runner, Setting}
-use Rattle.xr_simulation.specs.Standing.{Stand, Standing}
+use Rattle.xr_simulation.specs.MatchStates.{RunsBranch, MatchStates}
 
 -- a program with its image, a machine with that image, and a state of the program that stand so; `first` is who did what at the start
 pub record Moment (rests : (core thread : ℕ) → Bool) : Type 0 where
@@ -19,8 +19,8 @@ pub record Moment (rests : (core thread : ℕ) → Bool) : Type 0 where
   pub image : IsImageOf setting first
   pub roles : Roles
   pub watched : Watched
-  pub told : Told (of_kernel setting.program)
-  pub standing : Standing setting rests roles watched told
+  pub told : Counted (of_kernel setting.program)
+  pub standing : MatchStates setting rests roles watched told
 
 -- a thread of the machine then, and its core, whose role it is to run a branch with this in hand
 pub record ThreadAt {rests : (core thread : ℕ) → Bool} (moment : Moment rests) (hand : Option Acquired) : Type 0 where
@@ -36,13 +36,13 @@ pub record BranchAt {rests : (core thread : ℕ) → Bool} {moment : Moment rest
     (thread_at : ThreadAt moment hand) : Type 0 where
   pub branch : Branch
   pub known : slice_get moment.told.state.branches thread_at.runner.branch ≡ Some branch
-  pub stand : Stand moment.setting thread_at.runner (rests thread_at.core thread_at.thread) hand thread_at.state moment.told.state
+  pub stand : RunsBranch moment.setting thread_at.runner (rests thread_at.core thread_at.thread) hand thread_at.state moment.told.state
       (moment.watched.lives thread_at.core thread_at.thread) moment.told.actions branch
 
 -- The same, made of their parts.
 
 abbrev pub moment_of : {rests : (core thread : ℕ) → Bool} (g : Setting) (first : Roles) → IsImageOf g first → (who : Roles) (w : Watched)
-    (x : Told (of_kernel g.program)) → Standing g rests who w x → Moment rests
+    (x : Counted (of_kernel g.program)) → MatchStates g rests who w x → Moment rests
 moment_of g first is who w x st = record { setting = g; first = first; image = is; roles = who; watched = w; told = x; standing = st }
 
 abbrev pub thread_of : {rests : (core thread : ℕ) → Bool} (moment : Moment rests) (c t : ℕ) (a : CoreState) →
@@ -53,7 +53,7 @@ thread_of moment c t a at_c r hand runs_r = record { core = c; thread = t; state
 abbrev pub branch_of : {rests : (core thread : ℕ) → Bool} {moment : Moment rests} {hand : Option Acquired} (thread_at : ThreadAt moment hand)
     (branch : Branch) →
     slice_get moment.told.state.branches thread_at.runner.branch ≡ Some branch →
-    Stand moment.setting thread_at.runner (rests thread_at.core thread_at.thread) hand thread_at.state moment.told.state
+    RunsBranch moment.setting thread_at.runner (rests thread_at.core thread_at.thread) hand thread_at.state moment.told.state
     (moment.watched.lives thread_at.core thread_at.thread) moment.told.actions branch →
     BranchAt thread_at
 branch_of thread_at branch known stand = record { branch = branch; known = known; stand = stand }

@@ -13,7 +13,7 @@ use Rattle.xc_meaning.specs.States.Items.{Item, awaits, chooses, does, ends, fix
 use Rattle.xc_meaning.specs.States.Worlds.{World}
 use Rattle.xr_simulation.specs.Fits.{Fits, ItemsFit, PutsOutAt, TakesInAt}
 use Rattle.xr_simulation.specs.Runners.{Setting, Runner}
-use Rattle.xr_simulation.specs.Turns.{IsOnSide, StandsInSides}
+use Rattle.xr_simulation.specs.NextStep.{IsOnSide, StandsInSides}
 
 -- some side
 side_known : (side : Option Side) → IsSome side → (s : Side) × (side ≡ Some s)

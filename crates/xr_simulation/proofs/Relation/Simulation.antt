@@ -12,14 +12,14 @@ use Rattle.xl_expr.specs.declared.plan.Plan.{Plan}
 use Rattle.xr_match.specs.Implements.{AgreeNow, AgreeWholly, Implements, ImplementsWholly}
 use Rattle.xr_match.specs.Lives.{Watched, machine_of, watched_after, watched_start}
 use Rattle.xr_match.specs.Meanings.{of_kernel}
-use Rattle.xr_match.specs.Sources.{Told, actions_of, told_of, told_start}
+use Rattle.xr_match.specs.Sources.{Counted, actions_of, counted_of, counted_start}
 use Rattle.xr_match.proofs.Counted.{counted_steps}
 use Rattle.xr_match.proofs.Frame as frame
 use Rattle.xr_simulation.specs.Images.{IsImageOf}
 use Rattle.xr_simulation.specs.Living.{AreNamed}
 use Rattle.xr_simulation.specs.Roles.{Roles}
 use Rattle.xr_simulation.specs.Runners.{Setting}
-use Rattle.xr_simulation.specs.Standing.{none_rests}
+use Rattle.xr_simulation.specs.MatchStates.{none_rests}
 use Rattle.xr_simulation.proofs.Relation.Agreement.{agrees_now, quiet_agree}
 use Rattle.xr_simulation.proofs.Start.AtBoot.{standing_before}
 use Rattle.xr_simulation.proofs.Start.AtCode.{all_rest, set_life, set_standing, set_watched}
@@ -52,13 +52,13 @@ two_within most greatest actions is =
 
 module _ (g : Setting) (who : Roles) (is : IsImageOf g who) where
   -- the same as the program with its families' actions has it
-  follows : (x : Told (of_kernel g.program)) (w : Watched) → Comes g x w → frame.Follows (machine_of g.image g.stimulus) (told_of (of_kernel g.program) g.stimulus) (Together g) x w
+  follows : (x : Counted (of_kernel g.program)) (w : Watched) → Comes g x w → frame.Follows (machine_of g.image g.stimulus) (counted_of (of_kernel g.program) g.stimulus) (Together g) x w
   follows x w f =
       let z = counted_steps g.program g.stimulus (kernel_start g.program) (kernel_bound g.program) f.piece x f.world f.acted in
       let told = told_by g.program g.stimulus x f.piece f.world in
       let less : (h : ℕ) → told.actions h ≤ z.0.actions h = λ h. let e = z.3 h in omega arith in
       let t = f.together in
-      let counted_told : Told (of_kernel g.program) = record { state = f.world; actions = z.0.actions } in
+      let counted_told : Counted (of_kernel g.program) = record { state = f.world; actions = z.0.actions } in
       let more : Together g w counted_told = record {
         who = t.who;
         standing = standing_as g who is w none_rests none_rests t.who told t.standing z.0.actions less (λ i u s hand runs may. may);
@@ -67,20 +67,20 @@ module _ (g : Setting) (who : Roles) (is : IsImageOf g who) where
       (f.piece, z.0, z.1, subst (λ y. Together g w (record { state = y; actions = z.0.actions })) (sym z.2) more)
 
   -- the names where the stacks are set
-  set_named : AreNamed g who (set_watched who g.image) (told_start (of_kernel g.program))
+  set_named : AreNamed g who (set_watched who g.image) (counted_start (of_kernel g.program))
   set_named =
-      named_like g who (watched_start g.image) (set_watched who g.image) (told_start (of_kernel g.program))
+      named_like g who (watched_start g.image) (set_watched who g.image) (counted_start (of_kernel g.program))
       (λ c t. record { family = refl; pars = refl; tyings = λ n. refl })
       (λ c u t e. absurd (none_got g who is c u t e))
-      (λ c t e. two_within (kernel_bound g.program) (greatest_count g.program) (actions_of (of_kernel g.program) (told_start (of_kernel g.program)) (set_life c t).family) refl)
+      (λ c t e. two_within (kernel_bound g.program) (greatest_count g.program) (actions_of (of_kernel g.program) (counted_start (of_kernel g.program)) (set_life c t).family) refl)
       (start_named g who is)
 
   -- At the start the program's first piece leads to where the two stand so.
-  comes_first : Comes g (told_start (of_kernel g.program)) (watched_start g.image)
+  comes_first : Comes g (counted_start (of_kernel g.program)) (watched_start g.image)
   comes_first =
-      let settled = settles_everywhere g who is (set_watched who g.image) all_rest who (told_start (of_kernel g.program)) (set_standing g who is) in
+      let settled = settles_everywhere g who is (set_watched who g.image) all_rest who (counted_start (of_kernel g.program)) (set_standing g who is) in
       let q = settled.follows in
-      let x = told_by g.program g.stimulus (told_start (of_kernel g.program)) q.piece q.world in
+      let x = told_by g.program g.stimulus (counted_start (of_kernel g.program)) q.piece q.world in
       record {
         piece = q.piece;
         world = q.world;
@@ -97,7 +97,7 @@ module _ (g : Setting) (who : Roles) (is : IsImageOf g who) where
       }
 
   -- and again after each event
-  event : (w w' : Watched) (x : Told (of_kernel g.program)) (e : Event) → Together g w x → (machine_of g.image g.stimulus).next w e ≡ Some w' → frame.Follows (machine_of g.image g.stimulus) (told_of (of_kernel g.program) g.stimulus) (Together g) x w'
+  event : (w w' : Watched) (x : Counted (of_kernel g.program)) (e : Event) → Together g w x → (machine_of g.image g.stimulus).next w e ≡ Some w' → frame.Follows (machine_of g.image g.stimulus) (counted_of (of_kernel g.program) g.stimulus) (Together g) x w'
   event w w' x e t h =
       let left = left_by g.image g.stimulus w w' e h in
       let q = event_followed g who is t.who w left.0 x t.standing e left.1 in
@@ -110,7 +110,7 @@ module _ (g : Setting) (who : Roles) (is : IsImageOf g who) where
       follows x w' (subst (Comes g x) (sym left.2) comes)
 
   -- they agree in all that an image promises
-  agrees : (w : Watched) (x : Told (of_kernel g.program)) → Together g w x → AgreeWholly g.image (of_kernel g.program) g.stimulus w x
+  agrees : (w : Watched) (x : Counted (of_kernel g.program)) → Together g w x → AgreeWholly g.image (of_kernel g.program) g.stimulus w x
   agrees w x t = record {
     agree = agrees_now g t.who w x t.standing who is;
     quiet = quiet_agree g t.who w x t.standing who is;
@@ -118,10 +118,10 @@ module _ (g : Setting) (who : Roles) (is : IsImageOf g who) where
   }
 
   -- so the machine simulates the program
-  pub simulates : frame.Simulates (machine_of g.image g.stimulus) (told_of (of_kernel g.program) g.stimulus) (Together g) (AgreeWholly g.image (of_kernel g.program) g.stimulus)
+  pub simulates : frame.Simulates (machine_of g.image g.stimulus) (counted_of (of_kernel g.program) g.stimulus) (Together g) (AgreeWholly g.image (of_kernel g.program) g.stimulus)
   simulates = record {
     holds = agrees;
-    begins = follows (told_start (of_kernel g.program)) (watched_start g.image) comes_first;
+    begins = follows (counted_start (of_kernel g.program)) (watched_start g.image) comes_first;
     step = event;
   }
 
@@ -133,11 +133,11 @@ module _ (K : kernel.Kernel) (L : Image) (who : Roles) (plans : (core : ℕ) →
   -- the image keeps all that it promises
   pub wholly_implements : ImplementsWholly L (of_kernel K)
   wholly_implements = record {
-    by = λ s good. frame.refines_by (machine_of L s) (told_of (of_kernel K) s) (Together (setting K L plans s)) (AgreeWholly L (of_kernel K) s) (simulates (setting K L plans s) who (is s));
+    by = λ s good. frame.refines_by (machine_of L s) (counted_of (of_kernel K) s) (Together (setting K L plans s)) (AgreeWholly L (of_kernel K) s) (simulates (setting K L plans s) who (is s));
   }
 
   -- what everybody sees agrees
-  agreeing : (s : Stim) → frame.Simulates (machine_of L s) (told_of (of_kernel K) s) (Together (setting K L plans s)) (AgreeNow L (of_kernel K))
+  agreeing : (s : Stim) → frame.Simulates (machine_of L s) (counted_of (of_kernel K) s) (Together (setting K L plans s)) (AgreeNow L (of_kernel K))
   agreeing s =
       let sim = simulates (setting K L plans s) who (is s) in
       record { holds = λ w x t. (sim.holds w x t).agree; begins = sim.begins; step = sim.step }
@@ -145,5 +145,5 @@ module _ (K : kernel.Kernel) (L : Image) (who : Roles) (plans : (core : ℕ) →
   -- so it implements the kernel
   pub implements : Implements L (of_kernel K)
   implements = record {
-    by = λ s good. frame.refines_by (machine_of L s) (told_of (of_kernel K) s) (Together (setting K L plans s)) (AgreeNow L (of_kernel K)) (agreeing s);
+    by = λ s good. frame.refines_by (machine_of L s) (counted_of (of_kernel K) s) (Together (setting K L plans s)) (AgreeNow L (of_kernel K)) (agreeing s);
   }

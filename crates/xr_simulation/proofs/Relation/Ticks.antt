@@ -15,11 +15,11 @@ use Rattle.xl_par.specs.Acquired.{Acquired}
 use Rattle.xr_match.specs.Implements.{clock_of}
 use Rattle.xr_match.specs.Lives.{Watched, watched_after}
 use Rattle.xr_match.specs.Meanings.{of_kernel}
-use Rattle.xr_match.specs.Sources.{Told}
+use Rattle.xr_match.specs.Sources.{Counted}
 use Rattle.xr_simulation.specs.Roles.{AreUsedSo, Roles, used_by}
 use Rattle.xr_simulation.specs.Runners.{Runner, anyone, port_place}
 use Rattle.xr_simulation.specs.ThreadViews.{Rely, SpareFor}
-use Rattle.xr_simulation.specs.Standing.{AreLoose, Standing, none_rests}
+use Rattle.xr_simulation.specs.MatchStates.{AreLoose, MatchStates, none_rests}
 use Rattle.xr_simulation.proofs.Relation.Moments.{Moment}
 use Rattle.xr_simulation.proofs.Relation.CoreSteps.{HasStepped, kept_now, moves, other_same}
 use Rattle.xr_simulation.proofs.Relation.Reserves.{reserves_behind}
@@ -121,10 +121,10 @@ module _ (moment : Moment none_rests)
   all_ticked e = ap (λ o. acts_all g.program g.stimulus o []) (has_acted e)
 
   -- and behind that the two stand as before
-  abbrev pub told_ticked : Told (of_kernel g.program)
+  abbrev pub told_ticked : Counted (of_kernel g.program)
   told_ticked = told_by g.program g.stimulus x (clock c ∷ []) later
 
-  pub stands_after_tick : nat_lt a.clock last_clock ≡ true → Standing g none_rests who watched_ticked told_ticked
+  pub stands_after_tick : nat_lt a.clock last_clock ≡ true → MatchStates g none_rests who watched_ticked told_ticked
   stands_after_tick e =
       moves g none_rests none_rests who who w watched_ticked x c a (ticked a) (λ u. false) (clock c ∷ []) later st has_ticked
       (record {

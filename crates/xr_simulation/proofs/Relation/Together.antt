@@ -5,22 +5,22 @@ use Rattle.xc_meaning.specs.Runs.{acts_all}
 use Rattle.xc_meaning.specs.States.Worlds.{Action, World}
 use Rattle.xr_match.specs.Lives.{Watched}
 use Rattle.xr_match.specs.Meanings.{of_kernel}
-use Rattle.xr_match.specs.Sources.{Told, actions_of}
+use Rattle.xr_match.specs.Sources.{Counted, actions_of}
 use Rattle.xr_simulation.specs.Living.{AreNamed}
 use Rattle.xr_simulation.specs.Roles.{Roles, got_by, unused}
 use Rattle.xr_simulation.specs.Runners.{Setting}
-use Rattle.xr_simulation.specs.Standing.{Standing, none_rests}
+use Rattle.xr_simulation.specs.MatchStates.{MatchStates, none_rests}
 use Rattle.xr_simulation.proofs.Lives.Quiet.{IsLike, kids_still}
 use Rattle.xr_simulation.proofs.Relation.Lasting.{told_by}
 
 -- some roles by which all stand so, nobody is at rest, and the lives are named
-pub record Together (g : Setting) (w : Watched) (x : Told (of_kernel g.program)) : Type 0 where
+pub record Together (g : Setting) (w : Watched) (x : Counted (of_kernel g.program)) : Type 0 where
   pub who : Roles
-  pub standing : Standing g none_rests who w x
+  pub standing : MatchStates g none_rests who w x
   pub named : AreNamed g who w x
 
 -- a piece of the program's run leads there
-pub record Comes (g : Setting) (x : Told (of_kernel g.program)) (w : Watched) : Type 0 where
+pub record Comes (g : Setting) (x : Counted (of_kernel g.program)) (w : Watched) : Type 0 where
   pub piece : List Action
   pub world : World
   pub acted : acts_all g.program g.stimulus (Some x.state) piece ≡ Some world
@@ -28,7 +28,7 @@ pub record Comes (g : Setting) (x : Told (of_kernel g.program)) (w : Watched) : 
 
 module _ (g : Setting) (who : Roles) where
   -- the names are so with other lives of the same families, which did the same
-  pub named_like : (w w' : Watched) (x : Told (of_kernel g.program)) → ((c t : ℕ) → IsLike (w.lives c t) (w'.lives c t)) →
+  pub named_like : (w w' : Watched) (x : Counted (of_kernel g.program)) → ((c t : ℕ) → IsLike (w.lives c t) (w'.lives c t)) →
       ((c u t : ℕ) → who c u ≡ got_by t → (w'.lives c u).steps ≡ 0) →
       ((c t : ℕ) → who c t ≡ unused → (w'.lives c t).steps ≤ kernel_bound g.program * (actions_of (of_kernel g.program) x (w'.lives c t).family + 1)) → AreNamed g who w x → AreNamed g who w' x
   named_like w w' x like got over h = record {

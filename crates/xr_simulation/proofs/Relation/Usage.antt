@@ -11,7 +11,7 @@ use Rattle.xr_simulation.specs.Parents.{syncs_of}
 use Rattle.xr_simulation.specs.Roles.{AreRoles, AreUsedSo, Role, Roles, got_by, unused, used_by}
 use Rattle.xr_simulation.specs.Runners.{Setting, Runner}
 use Rattle.xr_simulation.specs.ThreadViews.{Owns, held_in, sync_in}
-use Rattle.xr_simulation.specs.Turns.{IsFree, IsFreeThread, IsTiedThread, IsWaitingTied}
+use Rattle.xr_simulation.specs.NextStep.{IsFree, IsFreeThread, IsTiedThread, IsWaitingTied}
 use Rattle.xr_simulation.proofs.Relation.CoreSteps.{same_hand, same_runner}
 use Rattle.xr_simulation.proofs.Relation.SeatChanges.{Place, gets, got_same, new, old, own, own_now, place}
 use Rattle.xr_simulation.proofs.Relation.Seats.{role_cases, role_here, with_role}

@@ -30,7 +30,7 @@ use Rattle.xr_simulation.proofs.RelyGuarantee.Footprints.{changed_used_items}
 use Rattle.xr_simulation.proofs.Image.Places.{IsWord, among_found, numbers_differ, word_found}
 use Rattle.xr_simulation.proofs.OwnSteps.Branch.{Works}
 use Rattle.xl_image.specs.Images.{pair_of}
-use Rattle.xr_channels.specs.Wires.{place}
+use Rattle.xr_channels.specs.Channels.{end_of_side}
 use Rattle.xr_match.specs.Sides.{two_sided}
 
 pub not_true : (b : Bool) → (b ≡ true → ⊥) → b ≡ false
@@ -49,7 +49,7 @@ both_sides second h = h
 
 -- where the end of a side stands
 place_is : (K : kernel.Kernel) (c : ℕ) (side : Side) (core : ℕ) → core_of K c side ≡ core →
-    place (pair_of K c) side ≡ record { core = core; end = end_number K core c side }
+    end_of_side (pair_of K c) side ≡ record { core = core; end = end_number K core c side }
 place_is K c first core here = ap (λ d. record { core = d; end = end_number K d c first }) here
 place_is K c second core here = ap (λ d. record { core = d; end = end_number K d c second }) here
 
@@ -206,7 +206,7 @@ module _ (g : Setting) (who : Roles) (x : World) (lawful : Lawful g.program x) (
     ends_apart p q side side' is is' same =
         let line = (lines.used r.core p is.channel.known is.channel.used).1 in
         let line' = (lines.used s.core q is'.channel.known is'.channel.used).1 in
-        let there : place (pair_of g.program p) side ≡ place (pair_of g.program q) side' =
+        let there : end_of_side (pair_of g.program p) side ≡ end_of_side (pair_of g.program q) side' =
         place_is g.program p side r.core is.here
         ∙ ap (λ n. record { core = r.core; end = n }) same
         ∙ ap (λ k. record { core = k; end = end_place g s q side' }) cores

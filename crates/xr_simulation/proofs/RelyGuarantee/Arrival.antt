@@ -22,7 +22,7 @@ use Rattle.xl_expr.proofs.ResourceParts.{others_fewer, others_same, own_fewer, p
 use Rattle.xr_simulation.specs.Runners.{IsMine, Setting, Runner, IsPort, IsTimer, MayChange, of_stack, home, is_among_words, is_word_among, places, port_place, relied, timer_place}
 use Rattle.xr_simulation.specs.Sizes.{Sizes}
 use Rattle.xr_simulation.specs.ThreadViews.{ThreadView, Rely, IsSilentStep, SameUse, StillRuns, after, keeps, running, LeadsIn}
-use Rattle.xr_simulation.specs.Turns.{IsAt}
+use Rattle.xr_simulation.specs.NextStep.{IsAt}
 use Rattle.xr_simulation.proofs.Relation.PortDeclarations.{declared_there, same_declared}
 use Rattle.xr_simulation.proofs.Relation.Sizes.{same_sizes}
 use Rattle.xl_expr.specs.PartSteps.{KeptParts, PartsStep, WithinParts}

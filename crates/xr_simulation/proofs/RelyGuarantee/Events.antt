@@ -12,9 +12,9 @@ use Rattle.xl_statements.specs.Pieces.{Exit}
 use Rattle.xr_simulation.specs.Items.{ItemsAt}
 use Rattle.xr_simulation.specs.Runners.{Setting, Runner, code, plan}
 use Rattle.xr_simulation.specs.ThreadViews.{running, running_so}
-use Rattle.xr_simulation.specs.Standing.{EventsAre}
+use Rattle.xr_simulation.specs.MatchStates.{EventsAre}
 use Rattle.xr_simulation.specs.Transfers.{AwaitsNothing}
-use Rattle.xr_simulation.specs.Turns.{EndOf, ItemsFrom, is_watching}
+use Rattle.xr_simulation.specs.NextStep.{EndOf, ItemsFrom, is_watching}
 
 -- the code of no item waits for an event
 pub code_unwatched : (places : Plan) (image : Code) (sides : Sides) (End : (pc j : ℕ) → Type 0) (items : List Item) (exits : List Exit)

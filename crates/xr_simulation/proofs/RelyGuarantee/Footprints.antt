@@ -20,10 +20,10 @@ use Rattle.xl_expr.specs.Frames.{HaveVars, variable_of}
 use Rattle.xl_expr.specs.Plans.{var_in}
 use Rattle.xl_plan.specs.Layout.{is_used_on}
 use Rattle.xr_simulation.specs.Fits.{AllFit, AsksRightly, BranchesFit, ChangesAt, FitOn, Fits, InputFits, IsChanged, ItemFits, ItemsFit, OutputFits, PutsOutAt, StampsAt, TakesInAt, Uses, UsesCondition, UsesAt, UsesSome}
-use Rattle.xr_simulation.specs.Runners.{Block, Footprint, Setting, Runner, IsChannel, IsPort, anyone, end_place, footprint_of, home, outside, places, plan, plan_in, shrunk}
+use Rattle.xr_simulation.specs.Runners.{Activation, Footprint, Setting, Runner, IsChannel, IsPort, anyone, end_place, footprint_of, home, outside, places, plan, plan_in, shrunk}
 use Rattle.xr_simulation.specs.ThreadViews.{ThreadView, running}
 use Rattle.xr_simulation.specs.Transfers.{Transfer, acts_left, items_behind}
-use Rattle.xr_simulation.specs.Turns.{Has, HoldsStore, InTransfer, IsBehind, PortsStand, Rest}
+use Rattle.xr_simulation.specs.NextStep.{Has, HoldsStore, InTransfer, IsBehind, PortsStand, Rest}
 use Rattle.xr_simulation.proofs.RelyGuarantee.Stands.{stands_on}
 
 -- one footprint is within another
@@ -183,7 +183,7 @@ module _ (g : Setting) (r s : Runner) (same : s.core ≡ r.core) (block : s.bloc
   moved : (v : ℕ) (found : VarPlan) → var_in (plan g r).vars v ≡ Some found → var_in (plan g s).vars v ≡ Some found
   moved v found known =
       subst (λ k. var_in (plan_in (g.plans k) s.block.plan).vars v ≡ Some found) (sym same)
-      (subst (λ (b : Block). var_in (plan_in (g.plans r.core) b.plan).vars v ≡ Some found) (sym block) known)
+      (subst (λ (b : Activation). var_in (plan_in (g.plans r.core) b.plan).vars v ≡ Some found) (sym block) known)
 
   mutual
     expression_here : (e : kernel.Expression) → Uses g r e → AreHad (λ th. by_expression th e) → Uses g s e

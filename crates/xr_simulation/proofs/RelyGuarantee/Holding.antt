@@ -25,8 +25,8 @@ use Rattle.xl_plan.specs.Layout.{core_of_port, port_number}
 use Rattle.xr_simulation.specs.Parents.{Parent}
 use Rattle.xr_simulation.specs.Roles.{IsParent, ParentsWait, ParentWaits, Roles, used_by}
 use Rattle.xr_simulation.specs.Runners.{HoldsPlaces, Footprint, IsMine, Setting, Runner, IsLaidOut, IsPort, MayChange, anyone, footprint_of, of_stack, of_variable, places, port_place}
-use Rattle.xr_simulation.specs.Standing.{AreLoose, IsWanted, NobodyChanges, NobodyHas, only}
-use Rattle.xr_simulation.specs.Turns.{HoldsStore, PortIs, PortsStand}
+use Rattle.xr_simulation.specs.MatchStates.{AreLoose, IsWanted, NobodyChanges, NobodyHas, only}
+use Rattle.xr_simulation.specs.NextStep.{HoldsStore, PortIs, PortsStand}
 use Rattle.xr_simulation.proofs.RelyGuarantee.Apartness.{not_true}
 use Rattle.xr_simulation.proofs.Image.Places.{numbers_differ}
 use Rattle.xr_simulation.proofs.OwnSteps.Branch.{Works}

@@ -18,11 +18,11 @@ use Rattle.xl_expr.specs.Works.{IsLaid, PlaceIsLaid}
 use Rattle.xl_expr.proofs.Framed.{framed_laid, framed_place}
 use Rattle.xl_expr.proofs.Lists.{room_kept}
 use Rattle.xr_simulation.specs.Fits.{Uses, UsesAt}
-use Rattle.xr_simulation.specs.Runners.{HoldsPlaces, Block, Setting, Runner, IsLaidOut, IsPort, is_among_words, is_word_among, is_word_at, is_word_of, outside, places, plan, plan_in, port_place, relied}
+use Rattle.xr_simulation.specs.Runners.{HoldsPlaces, Activation, Setting, Runner, IsLaidOut, IsPort, is_among_words, is_word_among, is_word_at, is_word_of, outside, places, plan, plan_in, port_place, relied}
 use Rattle.xr_simulation.specs.ThreadViews.{ThreadView, IsStable, Rely, running}
-use Rattle.xr_simulation.specs.Standing.{IsAtRest, IsOnItsWay, IsResuming, IsTransferring}
+use Rattle.xr_simulation.specs.MatchStates.{IsAtRest, IsOnItsWay, IsResuming, IsTransferring}
 use Rattle.xr_simulation.specs.Transfers.{Transfer}
-use Rattle.xr_simulation.specs.Turns.{GivesBack, HasBases, HoldsStore, Has, InTransfer, IsAt, PortsStand, Rest, Runs, Turns}
+use Rattle.xr_simulation.specs.NextStep.{GivesBack, HasBases, HoldsStore, Has, InTransfer, IsAt, PortsStand, Rest, Runs, StableNextStep}
 use Rattle.xr_simulation.proofs.RelyGuarantee.ThreadViews.{leads_in_stable, turns_stable}
 use Rattle.xr_simulation.proofs.RelyGuarantee.Arrival.{Since, among_words, any_part, ports_kept, ports_since, stack_relied}
 use Rattle.xr_simulation.proofs.RelyGuarantee.Stands.{parts_own, stands_kept}
@@ -149,7 +149,7 @@ module _ (g : Setting) (r : Runner) where
 
   -- a thread on its way to its item's own instruction is on it still
   pub on_its_way_stable : (most : ℕ) → IsStable g r (IsOnItsWay g r most)
-  on_its_way_stable most z y k h = (h.0, h.1, h.2, leads_in_stable g r (Turns g r h.1) (turns_stable g r h.1) h.0 z y k h.3)
+  on_its_way_stable most z y k h = (h.0, h.1, h.2, leads_in_stable g r (StableNextStep g r h.1) (turns_stable g r h.1) h.0 z y k h.3)
 
   -- one at rest is at rest still
   pub at_rest_stable : (items : List Item) (most : ℕ) → IsStable g r (IsAtRest g r items most)
@@ -229,10 +229,10 @@ module _ (g : Setting) (r : Runner) where
   runs_at z pc regs here = record { here = here; pc_is = refl; runs = refl; no_events = refl }
 
   -- in the outermost block code sees what is there
-  pub seen : (laid : IsLaidOut g r) (P : Block → Type 0) → P r.block → P outside
+  pub seen : (laid : IsLaidOut g r) (P : Activation → Type 0) → P r.block → P outside
   seen laid P h = subst P laid.block h
 
-  pub unseen : (laid : IsLaidOut g r) (P : Block → Type 0) → P outside → P r.block
+  pub unseen : (laid : IsLaidOut g r) (P : Activation → Type 0) → P outside → P r.block
   unseen laid P h = subst P (sym laid.block) h
 
   pub uses_seen : (laid : IsLaidOut g r) (x : kernel.Expression) → Uses g r x → HasVars (places g r.core) r.footprint.uses x

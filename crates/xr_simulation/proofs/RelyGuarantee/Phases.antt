@@ -10,7 +10,7 @@ use Rattle.xr_simulation.specs.Fits.{ItemsFit}
 use Rattle.xr_simulation.specs.Runners.{IsPort, Runner, Setting, end_place, footprint_of, home}
 use Rattle.xr_simulation.specs.ThreadViews.{ThreadView, running}
 use Rattle.xr_simulation.specs.Transfers.{Transfer, acts_left, items_behind}
-use Rattle.xr_simulation.specs.Turns.{Has, HoldsStore, InTransfer, IsBehind, PortsStand, Rest, TakesSteps}
+use Rattle.xr_simulation.specs.NextStep.{Has, HoldsStore, InTransfer, IsBehind, PortsStand, Rest, TakesSteps}
 use Rattle.xr_simulation.proofs.RelyGuarantee.Footprints.{acts_map, fits_moved}
 use Rattle.xr_simulation.proofs.RelyGuarantee.Stands.{stands_on}
 

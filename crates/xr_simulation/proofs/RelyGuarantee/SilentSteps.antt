@@ -23,8 +23,8 @@ use Rattle.xr_simulation.specs.Living.{AreNamed}
 use Rattle.xr_simulation.specs.Roles.{AreRoles, AreUsedSo, AcquiredFits, Roles, got_by, used_by}
 use Rattle.xr_simulation.specs.Runners.{HoldsPlaces, Setting, Runner, IsLaidOut, IsPort, MayChange, anyone, of_stack, of_variable, places, port_place}
 use Rattle.xr_simulation.specs.ThreadViews.{Guarantee, Owns, StillRuns}
-use Rattle.xr_simulation.specs.Standing.{AreLoose, EventsAre, IsRun, IsWanted, NobodyChanges, NobodyHas, Stand, Stands, StandsBy, ThreadIs, none_rests, only}
-use Rattle.xr_simulation.specs.Turns.{PortIs}
+use Rattle.xr_simulation.specs.MatchStates.{AreLoose, EventsAre, IsRun, IsWanted, NobodyChanges, NobodyHas, RunsBranch, ThreadRel, ProgressBy, ThreadIs, none_rests, only}
+use Rattle.xr_simulation.specs.NextStep.{PortIs}
 use Rattle.xr_simulation.proofs.RelyGuarantee.Holding.{LeavesLoose, holds_on}
 use Rattle.xl_expr.proofs.Lists.{get_set_same}
 use Rattle.xl_expr.proofs.ResourceParts.{port_same}
@@ -166,12 +166,12 @@ module _ {moment : Moment none_rests} {hand : Option Acquired} {thread_at : Thre
   }
 
   -- the thread is on its way still
-  module _ (left : ℕ) (few : suc left ≤ stand.left) (by : StandsBy g r false branch.items branch.mode left (record { core = b; world = x.state; hand = hand' }))
+  module _ (left : ℕ) (few : suc left ≤ stand.left) (by : ProgressBy g r false branch.items branch.mode left (record { core = b; world = x.state; hand = hand' }))
       (named : AreNamed g who w x → AreNamed g who' silent_watched (told_by g.program g.stimulus x [] x.state)) where
     abbrev more : ℕ → ℕ
     more = (told_by g.program g.stimulus x [] x.state).actions
 
-    silent_own : Stand g r false hand' b x.state (silent_watched.lives c t) more branch
+    silent_own : RunsBranch g r false hand' b x.state (silent_watched.lives c t) more branch
     silent_own = record {
       core = stand.core;
       family = stand.family;
@@ -205,7 +205,7 @@ module _ {moment : Moment none_rests} {hand : Option Acquired} {thread_at : Thre
     no_steps u m ne =
         ⊎_elim
         (λ (got : who c u ≡ got_by t).
-        let old = subst (Stands g false a x.state (w.lives c u) x.actions) got (st.threads c u a at_c) in
+        let old = subst (ThreadRel g false a x.state (w.lives c u) x.actions) got (st.threads c u a at_c) in
         ⊎_elim
         (λ (none : (silent_watched.lives c u).steps ≡ 0). none)
         (λ same. ap (λ (l : Life). l.steps) same.1 ∙ old)
@@ -213,13 +213,13 @@ module _ {moment : Moment none_rests} {hand : Option Acquired} {thread_at : Thre
         (λ (new : IsNewlyUsed a b u). got_new w silent_watched.machine c t u a b new.old new.new ne at_c (get_set_same w.machine.cores c a b at_c) new.was new.is new.unused new.used)
         (s.fresh u m ne)
 
-    silent_stand : (u : ℕ) → moved u ≡ true → Stands g false b x.state (silent_watched.lives c u) more (who' c u)
+    silent_stand : (u : ℕ) → moved u ≡ true → ThreadRel g false b x.state (silent_watched.lives c u) more (who' c u)
     silent_stand u m =
         ⊎_elim
         (λ (at : u ≡ t).
-        subst (λ k. Stands g false b x.state (silent_watched.lives c k) more (who' c k)) (sym at)
-        (subst (Stands g false b x.state (silent_watched.lives c t) more) (sym s.now) (subst (λ o. SomeIs o (Stand g r false hand' b x.state (silent_watched.lives c t) more)) (sym known) silent_own)))
-        (λ (ne : u ≢ t). subst (Stands g false b x.state (silent_watched.lives c u) more) (sym (s.others_got u m ne)) (no_steps u m ne))
+        subst (λ k. ThreadRel g false b x.state (silent_watched.lives c k) more (who' c k)) (sym at)
+        (subst (ThreadRel g false b x.state (silent_watched.lives c t) more) (sym s.now) (subst (λ o. SomeIs o (RunsBranch g r false hand' b x.state (silent_watched.lives c t) more)) (sym known) silent_own)))
+        (λ (ne : u ≢ t). subst (ThreadRel g false b x.state (silent_watched.lives c u) more) (sym (s.others_got u m ne)) (no_steps u m ne))
         (cases_eq u t)
 
     pub silent_answered : Follows g none_rests who w x silent_watched

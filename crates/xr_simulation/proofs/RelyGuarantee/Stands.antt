@@ -13,7 +13,7 @@ use Rattle.xl_statements.specs.Pieces.{Exit}
 use Rattle.xr_simulation.specs.Fits.{ItemsFit}
 use Rattle.xr_simulation.specs.Runners.{Footprint, IsMine, IsPort, Setting, Runner, port_place}
 use Rattle.xr_simulation.specs.Transfers.{Transfer}
-use Rattle.xr_simulation.specs.Turns.{ItemsFrom, SameParts, StandsAt, is_port_number, stands_on_part}
+use Rattle.xr_simulation.specs.NextStep.{ItemsFrom, SameParts, IsPlacedAt, is_port_number, stands_on_part}
 
 module _ (g : Setting) (r : Runner) where
   -- a port that the runner has is its own
@@ -42,7 +42,7 @@ module _ (g : Setting) (r : Runner) where
 
   -- where the code of items stands
   pub items_stand : (items : List Item) (exits : List Exit) (pc j : ℕ) (regs : Regs) (core : CoreState) → ItemsFrom g r items exits pc j →
-      StandsAt g r items j pc regs core
+      IsPlacedAt g r items j pc regs core
   items_stand [] exits pc j regs core h = absurd h
   items_stand (does s ∷ rest) exits pc j regs core h = (exits, h)
   items_stand (says i ∷ rest) exits pc j regs core h = (exits, h)
@@ -59,7 +59,7 @@ module _ (g : Setting) (r : Runner) where
 
   -- it stands so in another core too that has the same of the parts on which it stands
   pub stands_kept : (items : List Item) (j pc : ℕ) (regs : Regs) (a b : CoreState) → SameParts g r.core items a b →
-      StandsAt g r items j pc regs a → StandsAt g r items j pc regs b
+      IsPlacedAt g r items j pc regs a → IsPlacedAt g r items j pc regs b
   stands_kept [] j pc regs a b same h = h
   stands_kept (does s ∷ rest) j pc regs a b same h = h
   stands_kept (says i ∷ rest) j pc regs a b same h = h
@@ -90,8 +90,8 @@ module _ (g : Setting) (r : Runner) where
     abbrev pub other : Runner
     other = record r { footprint = footprint; transfer = transfer }
 
-    pub stands_on : (items : List Item) (j pc : ℕ) (regs : Regs) (core : CoreState) → StandsAt g r items j pc regs core →
-        StandsAt g other items j pc regs core
+    pub stands_on : (items : List Item) (j pc : ℕ) (regs : Regs) (core : CoreState) → IsPlacedAt g r items j pc regs core →
+        IsPlacedAt g other items j pc regs core
     stands_on [] j pc regs core h = h
     stands_on (does s ∷ rest) j pc regs core h = h
     stands_on (says i ∷ rest) j pc regs core h = h

@@ -4,7 +4,7 @@ use Rattle.xl_par.specs.Acquired.{IsAmong}
 use Rattle.xr_simulation.specs.Parents.{Parent}
 use Rattle.xr_simulation.specs.Runners.{IsMine, Setting, Runner}
 use Rattle.xr_simulation.specs.ThreadViews.{ThreadView, Rely, LeadsIn, IsStable, Owns, SpareFor, held_in, sync_in}
-use Rattle.xr_simulation.specs.Turns.{IsJoining, Joins, Turns}
+use Rattle.xr_simulation.specs.NextStep.{IsJoining, Joins, StableNextStep}
 use Rattle.xl_expr.proofs.ResourceParts.{own_then}
 
 module _ (g : Setting) (r : Runner) where
@@ -32,7 +32,7 @@ module _ (g : Setting) (r : Runner) where
   leads_in_stable Q q (suc n) z y k h = ⊎_elim (λ (here : Q z). inl (q z y k here)) (λ on. inr (λ x l. on x (kept_twice k l))) h
 
   -- a turn that is to come is to come still
-  pub turns_stable : (j : ℕ) → IsStable g r (Turns g r j)
+  pub turns_stable : (j : ℕ) → IsStable g r (StableNextStep g r j)
   turns_stable j z y k h = λ x l. h x (kept_twice k l)
 
   -- and so is a join

@@ -19,9 +19,9 @@ use Rattle.xl_expr.specs.Plans.{var_in}
 use Rattle.xl_expr.proofs.Lists.{get_set_same, get_set_other}
 use Rattle.xl_flow.specs.Zeros.{IsOutside, StandsFrom, WordsStand, words_set}
 use Rattle.xr_simulation.specs.Fits.{IsChanged, UsesAt}
-use Rattle.xr_simulation.specs.Runners.{HoldsPlaces, Block, Setting, Runner, IsLaidOut, MayChange, of_variable, places, plan_in, relied, plan}
+use Rattle.xr_simulation.specs.Runners.{HoldsPlaces, Activation, Setting, Runner, IsLaidOut, MayChange, of_variable, places, plan_in, relied, plan}
 use Rattle.xr_simulation.specs.ThreadViews.{ThreadView}
-use Rattle.xr_simulation.specs.Turns.{HasBases, HoldsStore}
+use Rattle.xr_simulation.specs.NextStep.{HasBases, HoldsStore}
 use Rattle.xr_simulation.proofs.RelyGuarantee.Arrival.{Since, any_part, stack_relied}
 use Rattle.xr_simulation.proofs.RelyGuarantee.Layouts.{unseen, variable_relied, place_seen, seen}
 use Rattle.xw_words.specs.declared.pos.Pos.{Pos}
@@ -167,7 +167,7 @@ module _ (g : Setting) (r : Runner) (v : ℕ) (laid : IsLaidOut g r) (is : IsCha
   pub stands_from : (words : List ℕ) (regs : Regs) → HasBases g r regs → StandsFrom (relied g r) regs.dp words is.found.place base
   stands_from words regs bases =
       let from_near : StandsFrom (relied g r) regs.dp words (Near first) base = ap (λ d. address_at d first)
-      (sym (bases.base ∙ ap (λ (b : Block). 4 * b.base) laid.block)) in
+      (sym (bases.base ∙ ap (λ (b : Activation). 4 * b.base) laid.block)) in
       subst (λ (p : VarAt). StandsFrom (relied g r) regs.dp words p base) (sym near.1.place) from_near
 
   -- a word that the runner may not change is none of them

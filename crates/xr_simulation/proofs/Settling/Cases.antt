@@ -19,7 +19,7 @@ use Rattle.xl_expr.proofs.Lists.{get_set_other, get_set_same}
 use Rattle.xl_par.specs.Acquired.{Acquired, IsAmong}
 use Rattle.xr_match.specs.Lives.{Watched}
 use Rattle.xr_match.specs.Meanings.{of_kernel}
-use Rattle.xr_match.specs.Sources.{Told}
+use Rattle.xr_match.specs.Sources.{Counted}
 use Rattle.xr_simulation.specs.Fits.{FitOn}
 use Rattle.xr_simulation.specs.Parents.{Parent, sync_before, syncs_of}
 use Rattle.xr_simulation.specs.Roles.{AcquiredFits, IsOnce, ParentsWait, Roles, empty, unused, used_by}
@@ -27,8 +27,8 @@ use Rattle.xr_simulation.specs.Runners.{Runner, Setting, anyone, footprint_of, o
 use Rattle.xr_simulation.specs.Sizes.{sizes_in}
 use Rattle.xr_simulation.specs.ThreadViews.{ThreadView, running}
 use Rattle.xr_simulation.specs.Settled.{IsOwn}
-use Rattle.xr_simulation.specs.Standing.{AreLoose, HasEnded, IsOnItsWay, Stand, Standing, StandsBy, StandsWith, ThreadIs}
-use Rattle.xr_simulation.specs.Turns.{HoldsStore, IsJoining, PortsStand, Rest, cost, finished, first_hand}
+use Rattle.xr_simulation.specs.MatchStates.{AreLoose, HasEnded, IsOnItsWay, RunsBranch, MatchStates, ProgressBy, ProgressWith, ThreadIs}
+use Rattle.xr_simulation.specs.NextStep.{HoldsStore, IsJoining, PortsStand, Rest, cost, finished, first_hand}
 use Rattle.xr_simulation.proofs.Relation.Counts.{ended_counts, made_counts}
 use Rattle.xr_simulation.proofs.ItemCode.Evaluations.{item_acts, with_items}
 use Rattle.xr_simulation.proofs.RelyGuarantee.Holding.{HaveEnded, holds_behind, ports_behind}
@@ -52,12 +52,12 @@ use Rattle.xr_simulation.proofs.OwnSteps.Branch.{Works}
 use Rattle.xr_simulation.proofs.Settling.Resting.{bound_more, few_behind, first_held, none_opened, resting}
 
 -- The program has done an item, all stand so again, and the thread has less to do without an instruction.
-pub record SettlesOne (g : Setting) (may_rest : (core thread : ℕ) → Bool) (old : Roles) (w : Watched) (x : Told (of_kernel g.program)) (c t weight : ℕ) : Type 0 where
+pub record SettlesOne (g : Setting) (may_rest : (core thread : ℕ) → Bool) (old : Roles) (w : Watched) (x : Counted (of_kernel g.program)) (c t weight : ℕ) : Type 0 where
   pub who : Roles
   pub piece : List Action
   pub world : World
   pub acted : acts_all g.program g.stimulus (Some x.state) piece ≡ Some world
-  pub standing : Standing g may_rest who w (told_by g.program g.stimulus x piece world)
+  pub standing : MatchStates g may_rest who w (told_by g.program g.stimulus x piece world)
   pub named : AreNamed g old w x → AreNamed g who w (told_by g.program g.stimulus x piece world)
   pub none_inside : NoneInside old → NoneInside who
   pub runner : Runner
@@ -130,7 +130,7 @@ module _ {may_rest : (core thread : ℕ) → Bool} {moment : Moment may_rest} {t
         let leads = settled_leads g r (laid_at moment c t r None runs_r) lt items j z h sized own sided in
         (leads.0, leads.1, (let le = leads.2 in omega (arith, le, few)), leads.3)
 
-    way_stand : Stand g r (may_rest' c t) hand a x.state (w.lives c t) (told_by g.program g.stimulus x [] x.state).actions branch
+    way_stand : RunsBranch g r (may_rest' c t) hand a x.state (w.lives c t) (told_by g.program g.stimulus x [] x.state).actions branch
     way_stand = record {
       core = stand.core;
       family = stand.family;
@@ -145,8 +145,8 @@ module _ {may_rest : (core thread : ℕ) → Bool} {moment : Moment may_rest} {t
       ends_tied = stand.ends_tied;
       left = stand.left;
       bound = bound_behind [] x.state stand.left (omega arith);
-      by = subst (λ m. StandsBy g r (may_rest' c t) branch.items m stand.left (record { core = a; world = x.state; hand = hand })) (sym running_is)
-          (subst (λ o. StandsWith g r (may_rest' c t) o branch.items stand.left (record { core = a; world = x.state; hand = hand })) (sym none) (inl on_its_way));
+      by = subst (λ m. ProgressBy g r (may_rest' c t) branch.items m stand.left (record { core = a; world = x.state; hand = hand })) (sym running_is)
+          (subst (λ o. ProgressWith g r (may_rest' c t) o branch.items stand.left (record { core = a; world = x.state; hand = hand })) (sym none) (inl on_its_way));
     }
 
     own_follows : Follows g may_rest' who w x w
@@ -316,7 +316,7 @@ module _ {may_rest : (core thread : ℕ) → Bool} {moment : Moment may_rest} {t
             subst (λ b. IsJoining g over p ps (7 + j) (record { core = a; world = with_ended x.state r.branch b; hand = None }))
             (same_Some ends_first.branch own_branch (sym ends_first.known ∙ own_known)) ends_first.joining
 
-        joining_stand : Stand g over (may_rest c t) None a over_world (w.lives c t) (told_by g.program g.stimulus x (go r.branch ∷ []) over_world).actions (finished own_branch)
+        joining_stand : RunsBranch g over (may_rest c t) None a over_world (w.lives c t) (told_by g.program g.stimulus x (go r.branch ∷ []) over_world).actions (finished own_branch)
         joining_stand = record {
           core = over_core;
           family = over_family;

@@ -28,7 +28,7 @@ use Rattle.xl_statements.specs.Pieces.{ClosesAt, Exit, Jumps, PiecesAt}
 use Rattle.xr_simulation.specs.Roles.{ParentWaits, ParentsWait}
 use Rattle.xr_simulation.specs.Runners.{HoldsPlaces, Footprint, Setting, Runner, IsPort, code, footprint_of, plan, port_place, shrunk}
 use Rattle.xr_simulation.specs.ThreadViews.{IsStable, Owns, ThreadView}
-use Rattle.xr_simulation.specs.Turns.{EndOf, HasBases, HoldsNames, HoldsStore, IsAt, IsJoining, ItemsFrom, Joins, PortsStand, Rest, Runs, finished, is_watching}
+use Rattle.xr_simulation.specs.NextStep.{EndOf, HasBases, HoldsNames, HoldsStore, IsAt, IsJoining, ItemsFrom, Joins, PortsStand, Rest, Runs, finished, is_watching}
 use Rattle.xr_simulation.proofs.ItemCode.ParCloses.{closes_leads}
 use Rattle.xr_simulation.proofs.ItemCode.Evaluations.{item_acts, runs_with, with_items}
 use Rattle.xr_simulation.proofs.ItemCode.Items.{behind_jumps, pieces_before}

@@ -16,8 +16,8 @@ use Rattle.xr_match.specs.Lives.{Life}
 use Rattle.xr_simulation.specs.Roles.{AcquiredFits, IsOnce, ParentsWait, empty, opens}
 use Rattle.xr_simulation.specs.Runners.{Runner, Setting, footprint_of}
 use Rattle.xr_simulation.specs.ThreadViews.{held_in, running_so, sync_in}
-use Rattle.xr_simulation.specs.Standing.{Stand, StandsBy, StandsWith, ThreadIs}
-use Rattle.xr_simulation.specs.Turns.{Rest, cost, first_hand, is_watching}
+use Rattle.xr_simulation.specs.MatchStates.{RunsBranch, ProgressBy, ProgressWith, ThreadIs}
+use Rattle.xr_simulation.specs.NextStep.{Rest, cost, first_hand, is_watching}
 use Rattle.xr_simulation.specs.Living.{opened, opens_by, some_more}
 use Rattle.xr_simulation.proofs.Relation.Sums.{some_named, sum, sum_most, sum_one, total_least, total_swap, named_true}
 use Rattle.xr_simulation.proofs.RelyGuarantee.Events.{events_on}
@@ -87,7 +87,7 @@ pub resting : (g : Setting) (s : Runner) (may : Bool) (a : CoreState) (y : World
     ParentsWait g y s.core s.family s.parents s.branch → next.sides ≡ s.sides → next.inside ≡ s.inside → s.transfer ≡ None →
     next.mode ≡ runs → Rest g s next.items j (record { core = a; world = y; hand = None }) → j + cost g s ≤ left →
     life.steps + left ≤ kernel_bound g.program * (more s.family + 1) →
-    Stand g s may None a y life more next
+    RunsBranch g s may None a y life more next
 resting g s may a y life more next j left may_be core family footprint parents sides inside none mode rest few bound = record {
   core = core;
   family = family;
@@ -108,7 +108,7 @@ resting g s may a y life more next j left may_be core family footprint parents s
   ends_tied = λ over. let both : runs ≡ ended = sym mode ∙ over in absurd (let z : ⊥ = cc in z);
   left = left;
   bound = bound;
-  by = subst (λ m. StandsBy g s may next.items m left (record { core = a; world = y; hand = None })) (sym mode)
-      (subst (λ b. StandsBy g s b next.items runs left (record { core = a; world = y; hand = None })) (sym may_be)
-      (subst (λ o. StandsWith g s true o next.items left (record { core = a; world = y; hand = None })) (sym none) (inr (inr (j, few, refl, rest)))));
+  by = subst (λ m. ProgressBy g s may next.items m left (record { core = a; world = y; hand = None })) (sym mode)
+      (subst (λ b. ProgressBy g s b next.items runs left (record { core = a; world = y; hand = None })) (sym may_be)
+      (subst (λ o. ProgressWith g s true o next.items left (record { core = a; world = y; hand = None })) (sym none) (inr (inr (j, few, refl, rest)))));
 }

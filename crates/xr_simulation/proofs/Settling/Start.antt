@@ -6,11 +6,11 @@ use Rattle.xs_instr.specs.declared.state.CoreState.{CoreState}
 use Rattle.xl_par.specs.Acquired.{Acquired}
 use Rattle.xr_match.specs.Lives.{Watched}
 use Rattle.xr_match.specs.Meanings.{of_kernel}
-use Rattle.xr_match.specs.Sources.{Told}
+use Rattle.xr_match.specs.Sources.{Counted}
 use Rattle.xr_simulation.specs.Images.{IsImageOf}
 use Rattle.xr_simulation.specs.Roles.{Roles, unused, used_by}
 use Rattle.xr_simulation.specs.Runners.{Setting, Runner}
-use Rattle.xr_simulation.specs.Standing.{Standing, none_rests}
+use Rattle.xr_simulation.specs.MatchStates.{MatchStates, none_rests}
 use Rattle.xr_simulation.proofs.Settling.All.{settles_after, nothing_settles, standing_as, thread_settles}
 use Rattle.xr_simulation.proofs.Channels.NoneInside.{Settles}
 use Rattle.xr_simulation.proofs.Relation.Lasting.{core_at, told_by}
@@ -38,8 +38,8 @@ module _ (g : Setting) (first : Roles) (is : IsImageOf g first) (w : Watched) wh
       less lt other = omega (arith, lt, other)
 
   -- those of one core
-  settle_threads : (c : ℕ) (a : CoreState) → slice_get w.machine.cores c ≡ Some a → ((who : Roles) (x : Told (of_kernel g.program)) → Standing g (rests_before c 0) who w x → Settles g none_rests who w x w) →
-      (n : ℕ) (who : Roles) (x : Told (of_kernel g.program)) → Standing g (rests_before c n) who w x → Settles g none_rests who w x w
+  settle_threads : (c : ℕ) (a : CoreState) → slice_get w.machine.cores c ≡ Some a → ((who : Roles) (x : Counted (of_kernel g.program)) → MatchStates g (rests_before c 0) who w x → Settles g none_rests who w x w) →
+      (n : ℕ) (who : Roles) (x : Counted (of_kernel g.program)) → MatchStates g (rests_before c n) who w x → Settles g none_rests who w x w
   settle_threads c a at_c next zero who x st = next who x st
   settle_threads c a at_c next (suc n) who x st =
       let q = thread_settles g first is w (rests_before c (suc n)) (rests_before c n) c n a at_c (before_others c n) who x st (who c n) refl in
@@ -64,7 +64,7 @@ module _ (g : Setting) (first : Roles) (is : IsImageOf g first) (w : Watched) wh
   used_so s hand e = cc
 
   -- those of the first cores
-  settle_cores : (c : ℕ) → c ≤ 4 → (who : Roles) (x : Told (of_kernel g.program)) → Standing g (rests_before c 0) who w x → Settles g none_rests who w x w
+  settle_cores : (c : ℕ) → c ≤ 4 → (who : Roles) (x : Counted (of_kernel g.program)) → MatchStates g (rests_before c 0) who w x → Settles g none_rests who w x w
   settle_cores zero le who x st =
       nothing_settles g first is w none_rests who x (standing_as g first is w (rests_before 0 0) none_rests who x st x.actions (λ f. omega arith) (λ i u s hand runs_s may. absurd (none_before i u may)))
   settle_cores (suc c) le who x st =
@@ -78,7 +78,7 @@ module _ (g : Setting) (first : Roles) (is : IsImageOf g first) (w : Watched) wh
       (or_cases (nat_lt i (suc c)) (nat_eq i (suc c) && nat_lt u 0) may))))
 
   -- wherever threads may be at rest, the program leads to where nobody is
-  pub settles_everywhere : (may_rest : (core thread : ℕ) → Bool) (who : Roles) (x : Told (of_kernel g.program)) → Standing g may_rest who w x → Settles g none_rests who w x w
+  pub settles_everywhere : (may_rest : (core thread : ℕ) → Bool) (who : Roles) (x : Counted (of_kernel g.program)) → MatchStates g may_rest who w x → Settles g none_rests who w x w
   settles_everywhere may_rest who x st =
       settle_cores 4 (omega arith) who x
       (standing_as g first is w may_rest (rests_before 4 0) who x st x.actions (λ f. omega arith) (λ i u s hand runs_s may.

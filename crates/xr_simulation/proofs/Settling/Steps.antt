@@ -18,9 +18,9 @@ use Rattle.xr_simulation.specs.Parents.{Parent, branches_of}
 use Rattle.xr_simulation.specs.Roles.{AreRoles, AreUsedSo, HasReserves, IsParent, Roles, got_by, own_branches, used_by}
 use Rattle.xr_simulation.specs.Runners.{HoldsPlaces, Runner, Setting}
 use Rattle.xr_simulation.specs.ThreadViews.{Owns, giving_back, held_in, sync_in}
-use Rattle.xr_simulation.specs.Standing.{AreLoose, IsMade, IsRun, IsWanted, Stand, Standing, Stands, living_on}
+use Rattle.xr_simulation.specs.MatchStates.{AreLoose, IsMade, IsRun, IsWanted, RunsBranch, MatchStates, ThreadRel, living_on}
 use Rattle.xr_simulation.specs.Transfers.{Transfer}
-use Rattle.xr_simulation.specs.Turns.{HoldsStore, PortsStand}
+use Rattle.xr_simulation.specs.NextStep.{HoldsStore, PortsStand}
 use Rattle.xr_simulation.proofs.RelyGuarantee.Holding.{loose_behind}
 use Rattle.xr_simulation.proofs.Relation.Moments.{Moment, ThreadAt}
 use Rattle.xr_simulation.proofs.Relation.CoreSteps.{Effect, laid_at, other_same, parent_there, own_still, parents_left, same_hand, same_runner, stands_at, works_at}
@@ -196,16 +196,16 @@ module _ {may_rest : (core thread : ℕ) → Bool} {moment : Moment may_rest} (t
 
     -- The runner stands so, and then all do. It is in no transfer.
     module _ (none : r.transfer ≡ None) (may_rest' : (core thread : ℕ) → Bool) (rests : (i u : ℕ) → ((i ≡ c) × (u ≡ t) → ⊥) → may_rest i u ≡ true → may_rest' i u ≡ true) (next : Branch) (there : slice_get y.branches s.branch ≡ Some next)
-        (stand : Stand g s (may_rest' c t) hand a y (w.lives c t) (told_by g.program g.stimulus x piece y).actions next) where
+        (stand : RunsBranch g s (may_rest' c t) hand a y (w.lives c t) (told_by g.program g.stimulus x piece y).actions next) where
       abbrev more : ℕ → ℕ
       more = (told_by g.program g.stimulus x piece y).actions
 
-      own_stand : (u : ℕ) → nat_eq u t ≡ true → Stands g (may_rest' c u) a y (w.lives c u) more (who_settled c u)
+      own_stand : (u : ℕ) → nat_eq u t ≡ true → ThreadRel g (may_rest' c u) a y (w.lives c u) more (who_settled c u)
       own_stand u m =
           let at : u ≡ t = eqb-true u t m in
-          subst (λ k. Stands g (may_rest' c k) a y (w.lives c k) more (who_settled c k)) (sym at)
-          (subst (Stands g (may_rest' c t) a y (w.lives c t) more) (sym (role_here who c t (used_by s hand)))
-          (subst (λ o. SomeIs o (Stand g s (may_rest' c t) hand a y (w.lives c t) more)) (sym there) stand))
+          subst (λ k. ThreadRel g (may_rest' c k) a y (w.lives c k) more (who_settled c k)) (sym at)
+          (subst (ThreadRel g (may_rest' c t) a y (w.lives c t) more) (sym (role_here who c t (used_by s hand)))
+          (subst (λ o. SomeIs o (RunsBranch g s (may_rest' c t) hand a y (w.lives c t) more)) (sym there) stand))
 
       -- each thread is in the transfer in which it was
       transfers_settled : TransfersAsBefore who who_settled
@@ -231,7 +231,7 @@ module _ {may_rest : (core thread : ℕ) → Bool} {moment : Moment may_rest} (t
           let now : used_by s hand ≡ used_by q other = sym (role_here who c t (used_by s hand)) ∙ sym (ap (who_settled c) (eqb-true u t m)) ∙ at in
           let both : None ≡ Some transfer = sym (d.transfer ∙ none) ∙ ap (λ (k : Runner). k.transfer) (same_runner s q hand other now) ∙ its in cc
 
-      pub settled : Standing g may_rest' who_settled w (told_by g.program g.stimulus x piece y)
+      pub settled : MatchStates g may_rest' who_settled w (told_by g.program g.stimulus x piece y)
       settled =
           answered thread_at (λ u. nat_eq u t) (eq-eqb t t refl) a y settled_effect may_rest' who_settled w piece
           (record { was = at_c; is = at_c; others = λ i e ne at. other_same w w i e refl at; as_many = refl; sizes = refl })

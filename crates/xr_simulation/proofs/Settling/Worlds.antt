@@ -19,8 +19,8 @@ use Rattle.xl_par.specs.Acquired.{IsAmong}
 use Rattle.xr_simulation.specs.Parents.{Parent, branches_of, sync_before, syncs_of}
 use Rattle.xr_simulation.specs.Roles.{IsParent, ParentWaits, outermost, own_branches}
 use Rattle.xr_simulation.specs.Runners.{Footprint, Runner, Setting, footprint_of}
-use Rattle.xr_simulation.specs.Standing.{IsMade, counts, is_of_root, one_where, living_on}
-use Rattle.xr_simulation.specs.Turns.{finished}
+use Rattle.xr_simulation.specs.MatchStates.{IsMade, counts, is_of_root, one_where, living_on}
+use Rattle.xr_simulation.specs.NextStep.{finished}
 use Rattle.xr_simulation.proofs.Relation.Counts.{ended_counts, living_same, living_with, made_counts}
 use Rattle.xr_simulation.proofs.Settling.Steps.{IsSettled}
 use Rattle.xr_simulation.proofs.Settling.Items.{child_of, maker_of, one_action, risen, risen_branch, under, waiting_one, with_child, with_risen}

@@ -17,7 +17,7 @@ use Rattle.xc_meaning.specs.States.Items.{Item}
 use Rattle.xl_par.specs.Acquired.{Acquired}
 use Rattle.xr_match.specs.Lives.{Life, begun, of_root, watched_start}
 use Rattle.xr_match.specs.Meanings.{of_kernel}
-use Rattle.xr_match.specs.Sources.{Told}
+use Rattle.xr_match.specs.Sources.{Counted}
 use Rattle.xr_match.specs.Systems.{SomeIs}
 use Rattle.xr_simulation.specs.Images.{IsImageOf}
 use Rattle.xr_simulation.specs.Parents.{Parent}
@@ -25,8 +25,8 @@ use Rattle.xr_simulation.specs.Roles.{AreUsedSo, AcquiredFits, Role, Roles, empt
 use Rattle.xr_simulation.specs.Runners.{Setting, Runner, home}
 use Rattle.xr_simulation.specs.Sizes.{sizes_of}
 use Rattle.xr_simulation.specs.ThreadViews.{ThreadView, held_in, running, sync_in}
-use Rattle.xr_simulation.specs.Standing.{AreLoose, EventsAre, HasEnded, IfTrue, IsAtRest, IsOnItsWay, IsResuming, Stand, Standing, Stands, StandsBy, StandsWith, ThreadIs, none_rests}
-use Rattle.xr_simulation.specs.Turns.{IsFree, Joins, Turns}
+use Rattle.xr_simulation.specs.MatchStates.{AreLoose, EventsAre, HasEnded, IfTrue, IsAtRest, IsOnItsWay, IsResuming, RunsBranch, MatchStates, ThreadRel, ProgressBy, ProgressWith, ThreadIs, none_rests}
+use Rattle.xr_simulation.specs.NextStep.{IsFree, Joins, StableNextStep}
 use Rattle.xr_simulation.specs.Wired.{AreWired, boxes_in}
 use Rattle.xr_simulation.proofs.Start.AtCode.{entry, none_taken, set_on, set_there, set_watched, starts_there, set_life, unused_free, unused_there}
 use Rattle.xr_simulation.proofs.Start.Boot.{boot_length, set_regs, stack_leads}
@@ -69,7 +69,7 @@ module _ (g : Setting) (who : Roles) (is : IsImageOf g who) where
 
   -- A root's thread, as a runner has it that goes on with it.
   module _ (r r0 : Runner) (e : who r0.core r0.thread ≡ used_by r0 None) (core : r.core ≡ r0.core) (thread : r.thread ≡ r0.thread) (tie : r.tie ≡ None)
-      (x : Told (of_kernel g.program)) (hand : Option Acquired) (none_held : held_in hand ≡ []) (no_sync : sync_in hand ≡ None) where
+      (x : Counted (of_kernel g.program)) (hand : Option Acquired) (none_held : held_in hand ≡ []) (no_sync : sync_in hand ≡ None) where
     abbrev root : RunsRoot g who is r0.core r0.thread r0 None
     root = root_of g who is r0.core r0.thread r0 None e
 
@@ -108,7 +108,7 @@ module _ (g : Setting) (who : Roles) (is : IsImageOf g who) where
       1 + (1 + n),
       j,
       two_more n j left le,
-      stack_leads g r (entry g who is r0 e) r0.stack first_instr second_instr boot_z (set_on g who is r0.core).threads starts_at set_at_two none_held no_sync (Turns g r j) (turns_stable g r j) n leads,
+      stack_leads g r (entry g who is r0 e) r0.stack first_instr second_instr boot_z (set_on g who is r0.core).threads starts_at set_at_two none_held no_sync (StableNextStep g r j) (turns_stable g r j) n leads,
     )
 
     pub ended_before : (ps : List Parent) (left : ℕ) → HasEnded g r ps left set_z → HasEnded g r ps (left + 2) boot_z
@@ -120,7 +120,7 @@ module _ (g : Setting) (who : Roles) (is : IsImageOf g who) where
       stack_leads g r (entry g who is r0 e) r0.stack first_instr second_instr boot_z (set_on g who is r0.core).threads starts_at set_at_two none_held no_sync (Joins g r p ps j) (joins_stable g r p ps j) n leads,
     )
 
-    pub stands_with : (items : List Item) (left : ℕ) → StandsWith g r false None items left set_z → StandsWith g r false None items (left + 2) boot_z
+    pub stands_with : (items : List Item) (left : ℕ) → ProgressWith g r false None items left set_z → ProgressWith g r false None items (left + 2) boot_z
     stands_with items left h =
         ⊎_elim
         (λ (on : IsOnItsWay g r left set_z). inl (way_before left on))
@@ -131,13 +131,13 @@ module _ (g : Setting) (who : Roles) (is : IsImageOf g who) where
         other)
         h
 
-    pub stands_before : r.transfer ≡ None → (items : List Item) (mode : Mode) (left : ℕ) → StandsBy g r false items mode left set_z → StandsBy g r false items mode (left + 2) boot_z
-    stands_before none items runs left h = subst (λ o. StandsWith g r false o items (left + 2) boot_z) (sym none) (stands_with items left (subst (λ o. StandsWith g r false o items left set_z) none h))
+    pub stands_before : r.transfer ≡ None → (items : List Item) (mode : Mode) (left : ℕ) → ProgressBy g r false items mode left set_z → ProgressBy g r false items mode (left + 2) boot_z
+    stands_before none items runs left h = subst (λ o. ProgressWith g r false o items (left + 2) boot_z) (sym none) (stands_with items left (subst (λ o. ProgressWith g r false o items left set_z) none h))
     stands_before none items (waits from count) left h = absurd h
     stands_before none items ended left h = ended_before r.parents left h
     stands_before none items erred left h = h
 
-    pub stand_before : r.transfer ≡ None → (old life : Life) (branch : Branch) → old.steps ≡ 2 → life.steps ≡ 0 → Stand g r false hand (set_on g who is r0.core) x.state old x.actions branch → Stand g r false hand (boot_on r0.core) x.state life x.actions branch
+    pub stand_before : r.transfer ≡ None → (old life : Life) (branch : Branch) → old.steps ≡ 2 → life.steps ≡ 0 → RunsBranch g r false hand (set_on g who is r0.core) x.state old x.actions branch → RunsBranch g r false hand (boot_on r0.core) x.state life x.actions branch
     stand_before no_transfer old life branch two none h =
         let has = h.thread in
         let same : has.thread ≡ running r.tie (entry g who is r0 e + 2) (set_regs r0) = same_Some has.thread _ (sym has.there ∙ set_at_two) in
@@ -164,7 +164,7 @@ module _ (g : Setting) (who : Roles) (is : IsImageOf g who) where
           by = stands_before no_transfer branch.items branch.mode h.left h.by;
         }
 
-  module _ (who' : Roles) (x : Told (of_kernel g.program)) (st : Standing g none_rests who' (set_watched who g.image) x)
+  module _ (who' : Roles) (x : Counted (of_kernel g.program)) (st : MatchStates g none_rests who' (set_watched who g.image) x)
       (none_begun : (c t : ℕ) (r : Runner) (hand : Option Acquired) → who' c t ≡ used_by r hand → r.transfer ≡ None) where
     -- no runner has a synchroniser in hand
     none_in_hand : (c t : ℕ) (r : Runner) (hand : Option Acquired) → c < 4 → who' c t ≡ used_by r hand → sync_in hand ≡ None
@@ -176,14 +176,14 @@ module _ (g : Setting) (who : Roles) (is : IsImageOf g who) where
 
     -- Each thread that is used is a root's.
     module _ (c t : ℕ) (lt : c < 4) (r : Runner) (hand : Option Acquired) (e : who' c t ≡ used_by r hand) where
-      stands : Stands g false (set_on g who is c) x.state (set_life c t) x.actions (used_by r hand)
-      stands = subst (Stands g false (set_on g who is c) x.state (set_life c t) x.actions) e (st.threads c t (set_on g who is c) (set_core_at c lt))
+      stands : ThreadRel g false (set_on g who is c) x.state (set_life c t) x.actions (used_by r hand)
+      stands = subst (ThreadRel g false (set_on g who is c) x.state (set_life c t) x.actions) e (st.threads c t (set_on g who is c) (set_core_at c lt))
 
       there : slice_get (set_on g who is c).threads t ≡ Some (own_thread_of g r false hand (set_on g who is c) x.state (set_life c t) x.actions stands).thread
       there = ap (slice_get (set_on g who is c).threads) (sym (st.roles.thread c t r hand e)) ∙ (own_thread_of g r false hand (set_on g who is c) x.state (set_life c t) x.actions stands).there
 
-      own_stand : (branch : Branch) × (slice_get x.state.branches r.branch ≡ Some branch) × Stand g r false hand (set_on g who is c) x.state (set_life c t) x.actions branch
-      own_stand = some_is (Stand g r false hand (set_on g who is c) x.state (set_life c t) x.actions) (slice_get x.state.branches r.branch) stands
+      own_stand : (branch : Branch) × (slice_get x.state.branches r.branch ≡ Some branch) × RunsBranch g r false hand (set_on g who is c) x.state (set_life c t) x.actions branch
+      own_stand = some_is (RunsBranch g r false hand (set_on g who is c) x.state (set_life c t) x.actions) (slice_get x.state.branches r.branch) stands
 
       no_sync : sync_in hand ≡ None
       no_sync = none_in_hand c t r hand lt e
@@ -194,7 +194,7 @@ module _ (g : Setting) (who : Roles) (is : IsImageOf g who) where
       used : who' c t ≢ unused
       used f = let both : used_by r hand ≡ unused = sym e ∙ f in cc
 
-      root_runs_so : (life : Life) → life.steps ≡ 0 → (r0 : Runner) (old : Option Acquired) → RunsRoot g who is c t r0 old → Stands g false (boot_on c) x.state life x.actions (used_by r hand)
+      root_runs_so : (life : Life) → life.steps ≡ 0 → (r0 : Runner) (old : Option Acquired) → RunsRoot g who is c t r0 old → ThreadRel g false (boot_on c) x.state life x.actions (used_by r hand)
       root_runs_so life none r0 old k =
           let own = own_thread_of g r false hand (set_on g who is c) x.state (set_life c t) x.actions stands in
           let at_home : who r0.core r0.thread ≡ used_by r0 None = ap (λ d. who d r0.thread) k.core ∙ ap (who c) k.thread ∙ k.runs_it in
@@ -204,19 +204,19 @@ module _ (g : Setting) (who : Roles) (is : IsImageOf g who) where
           let tie : r.tie ≡ None = sym own.tied ∙ ap (λ (i : Thread). i.tie) same ∙ k.is_root.tie in
           let core : r.core ≡ r0.core = st.roles.core c t r hand e ∙ sym k.core in
           let thread : r.thread ≡ r0.thread = st.roles.thread c t r hand e ∙ sym k.thread in
-          let stand = subst (λ d. Stand g r false hand (set_on g who is d) x.state (set_life c t) x.actions own_stand.0) (sym k.core) own_stand.2 in
+          let stand = subst (λ d. RunsBranch g r false hand (set_on g who is d) x.state (set_life c t) x.actions own_stand.0) (sym k.core) own_stand.2 in
           let before = stand_before r r0 at_home core thread tie x hand none_held no_sync (none_begun c t r hand e) (set_life c t) life own_stand.0 refl none stand in
-          subst (λ o. SomeIs o (Stand g r false hand (boot_on c) x.state life x.actions)) (sym own_stand.1)
-          (subst (λ d. Stand g r false hand (boot_on d) x.state life x.actions own_stand.0) k.core before)
+          subst (λ o. SomeIs o (RunsBranch g r false hand (boot_on c) x.state life x.actions)) (sym own_stand.1)
+          (subst (λ d. RunsBranch g r false hand (boot_on d) x.state life x.actions own_stand.0) k.core before)
 
-      runs_so : (life : Life) → life.steps ≡ 0 → (role : Role) → who c t ≡ role → Stands g false (boot_on c) x.state life x.actions (used_by r hand)
+      runs_so : (life : Life) → life.steps ≡ 0 → (role : Role) → who c t ≡ role → ThreadRel g false (boot_on c) x.state life x.actions (used_by r hand)
       runs_so life none unused f =
           let own = own_thread_of g r false hand (set_on g who is c) x.state (set_life c t) x.actions stands in
           absurd (own.used (free_mode (slice_get (set_on g who is c).threads t) own.thread there (unused_free g who is c t lt (st.roles.few c t used) f)))
       runs_so life none (got_by u) f = absurd (none_got g who is c t u f)
       runs_so life none (used_by r0 old) f = root_runs_so life none r0 old (root_of g who is c t r0 old f)
 
-    all_so : (c t : ℕ) → c < 4 → (life : Life) → life.steps ≡ 0 → (role : Role) → who' c t ≡ role → Stands g false (boot_on c) x.state life x.actions role
+    all_so : (c t : ℕ) → c < 4 → (life : Life) → life.steps ≡ 0 → (role : Role) → who' c t ≡ role → ThreadRel g false (boot_on c) x.state life x.actions role
     all_so c t lt life none unused e = tt
     all_so c t lt life none (got_by u) e = none
     all_so c t lt life none (used_by r hand) e = runs_so c t lt r hand e life none (who c t) refl
@@ -268,7 +268,7 @@ module _ (g : Setting) (who : Roles) (is : IsImageOf g who) where
           one = old.one;
         }
 
-    pub standing_before : Standing g none_rests who' (watched_start g.image) x
+    pub standing_before : MatchStates g none_rests who' (watched_start g.image) x
     standing_before = record {
       clocks = st.clocks;
       trace = st.trace;
@@ -283,7 +283,7 @@ module _ (g : Setting) (who : Roles) (is : IsImageOf g who) where
       used = λ c a e. let d = boot_cores_are g.image c a e in subst (AreUsedSo who' c) (sym d.1) (used_so c d.0);
       threads = λ c t a e.
           let d = boot_cores_are g.image c a e in
-          subst (λ i. Stands g false i x.state (begun (Some (of_root c t))) x.actions (who' c t)) (sym d.1) (all_so c t d.0 (begun (Some (of_root c t))) refl (who' c t) refl);
+          subst (λ i. ThreadRel g false i x.state (begun (Some (of_root c t))) x.actions (who' c t)) (sym d.1) (all_so c t d.0 (begun (Some (of_root c t))) refl (who' c t) refl);
       loose = λ c a e some. let d = boot_cores_are g.image c a e in subst (λ i. AreLoose g who' c i x.state) (sym d.1) (loose_so c d.0 some);
       sizes = λ c a e. let d = boot_cores_are g.image c a e in ap sizes_of d.1 ∙ st.sizes c (set_on g who is c) (set_core_at c d.0);
       roots = λ c a e. let d = boot_cores_are g.image c a e in ap (λ (i : CoreState). i.roots) d.1 ∙ st.roots c (set_on g who is c) (set_core_at c d.0);

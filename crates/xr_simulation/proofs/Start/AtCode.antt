@@ -18,18 +18,18 @@ use Rattle.xc_meaning.specs.States.Worlds.{World}
 use Rattle.xl_image.specs.Images.{decl_of, root_sides}
 use Rattle.xr_match.specs.Lives.{Life, Watched, begun, of_root}
 use Rattle.xr_match.specs.Meanings.{of_kernel}
-use Rattle.xr_match.specs.Sources.{told_start}
+use Rattle.xr_match.specs.Sources.{counted_start}
 use Rattle.xr_match.specs.Systems.{SomeIs}
 use Rattle.xr_simulation.specs.Images.{IsCoreOf, IsImageOf}
 use Rattle.xr_simulation.specs.Items.{EndAt, ItemsAt}
 use Rattle.xr_simulation.specs.Parents.{syncs_of}
 use Rattle.xr_simulation.specs.Roles.{AreUsedSo, IsParent, ParentsWait, Role, Roles, empty, got_by, unused, used_by}
-use Rattle.xr_simulation.specs.Runners.{Block, Setting, Runner, IsPort, anyone, code, footprint_of, home, plan, port_place}
+use Rattle.xr_simulation.specs.Runners.{Activation, Setting, Runner, IsPort, anyone, code, footprint_of, home, plan, port_place}
 use Rattle.xr_simulation.specs.Sizes.{sizes_of}
 use Rattle.xr_simulation.specs.ThreadViews.{ThreadView, giving_back, running}
-use Rattle.xr_simulation.specs.Standing.{AreLoose, HasThread, Stand, Standing, Stands, StandsBy, StandsWith}
+use Rattle.xr_simulation.specs.MatchStates.{AreLoose, HasThread, RunsBranch, MatchStates, ThreadRel, ProgressBy, ProgressWith}
 use Rattle.xr_simulation.specs.Transfers.{StopsIn}
-use Rattle.xr_simulation.specs.Turns.{HoldsNames, HoldsStore, IsFree, ItemsFrom, Rest, cost, is_watching}
+use Rattle.xr_simulation.specs.NextStep.{HoldsNames, HoldsStore, IsFree, ItemsFrom, Rest, cost, is_watching}
 use Rattle.xr_simulation.proofs.Start.Boot.{boot_length, boot_port_at, boot_thread_at, boot_thread_free, set_at, set_core, set_length, set_regs, set_thread}
 use Rattle.xr_simulation.proofs.Relation.Reserves.{reserves_begin}
 use Rattle.xr_simulation.proofs.Image.RootCode.{root_items}
@@ -142,7 +142,7 @@ module _ (g : Setting) (who : Roles) (is : IsImageOf g who) where
       regs = set_regs r;
       here = here_at items (items_unwatched g r items [] (entry + 2) 0 code_there) set_there;
       bases = record {
-        base = ap (λ (b : Block). 4 * b.base) (sym h.is_root.block);
+        base = ap (λ (b : Activation). 4 * b.base) (sym h.is_root.block);
         stack = refl;
         names = subst (λ l. HoldsNames r.core l (set_regs r)) (sym (ap syncs_of h.is_root.alone)) (record { by = λ place n at lt. absurd (none_there n at) });
       };
@@ -162,7 +162,7 @@ module _ (g : Setting) (who : Roles) (is : IsImageOf g who) where
         none_there : (n : ℕ) → ◌≡◌ {A = Option ℕ} None (Some n) → ⊥
         none_there n f = cc
 
-    stand_of : (life : Life) → life.steps ≡ 2 → (branch : Branch) → slice_get start.branches r.branch ≡ Some branch → IsRootBranch h.root r.branch branch → Stand g r true None (set_on r.core) start life (λ f. 0) branch
+    stand_of : (life : Life) → life.steps ≡ 2 → (branch : Branch) → slice_get start.branches r.branch ≡ Some branch → IsRootBranch h.root r.branch branch → RunsBranch g r true None (set_on r.core) start life (λ f. 0) branch
     stand_of life two branch known b = record {
       core = b.core ∙ h.is_root.core;
       family = b.family ∙ sym h.is_root.family;
@@ -185,24 +185,24 @@ module _ (g : Setting) (who : Roles) (is : IsImageOf g who) where
       ends_tied = λ f. let both : runs ≡ ended = sym b.mode ∙ f in cc;
       left = cost g r;
       bound = let within = start_bound (kernel_bound g.program) (greatest_count g.program) 0 refl in omega (arith, within, two);
-      by = subst (λ m. StandsBy g r true branch.items m (cost g r) z) (sym b.mode)
-          (subst (λ o. StandsWith g r true o branch.items (cost g r) z) (sym h.is_root.no_transfer) (inr (inr (0, omega arith, refl, subst (λ l. Rest g r l 0 z) (sym b.items) (rest_of branch known b)))));
+      by = subst (λ m. ProgressBy g r true branch.items m (cost g r) z) (sym b.mode)
+          (subst (λ o. ProgressWith g r true o branch.items (cost g r) z) (sym h.is_root.no_transfer) (inr (inr (0, omega arith, refl, subst (λ l. Rest g r l 0 z) (sym b.items) (rest_of branch known b)))));
     }
 
-    pub root_stands : (life : Life) → life.steps ≡ 2 → Stands g true (set_on r.core) start life (λ f. 0) (used_by r None)
+    pub root_stands : (life : Life) → life.steps ≡ 2 → ThreadRel g true (set_on r.core) start life (λ f. 0) (used_by r None)
     root_stands life two =
         let b = branch_of g who is r.branch h.root h.is_root.known in
-        subst (λ o. SomeIs o (Stand g r true None (set_on r.core) start life (λ f. 0))) (sym b.1) (stand_of life two b.0 b.1 b.2)
+        subst (λ o. SomeIs o (RunsBranch g r true None (set_on r.core) start life (λ f. 0))) (sym b.1) (stand_of life two b.0 b.1 b.2)
 
   -- each thread
-  threads_stand : (life : Life) → life.steps ≡ 2 → (c t : ℕ) (role : Role) → who c t ≡ role → Stands g true (set_on c) start life (λ f. 0) role
+  threads_stand : (life : Life) → life.steps ≡ 2 → (c t : ℕ) (role : Role) → who c t ≡ role → ThreadRel g true (set_on c) start life (λ f. 0) role
   threads_stand life two c t unused e = tt
   threads_stand life two c t (got_by u) e = absurd (none_got g who is c t u e)
   threads_stand life two c t (used_by r hand) e =
       let k = root_of g who is c t r hand e in
       let at_home : who r.core r.thread ≡ used_by r None = ap (λ d. who d r.thread) k.core ∙ ap (who c) k.thread ∙ k.runs_it in
-      subst (λ o. Stands g true (set_on c) start life (λ f. 0) (used_by r o)) (sym k.none)
-      (subst (λ d. Stands g true (set_on d) start life (λ f. 0) (used_by r None)) k.core (root_stands r at_home life two))
+      subst (λ o. ThreadRel g true (set_on c) start life (λ f. 0) (used_by r o)) (sym k.none)
+      (subst (λ d. ThreadRel g true (set_on d) start life (λ f. 0) (used_by r None)) k.core (root_stands r at_home life two))
 
   -- one that is unused is free
   pub unused_there : (c u : ℕ) → c < 4 → u < 8 → who c u ≡ unused → slice_get (boot_threads (parts_in g.image.cores c).roots 8) u ≡ Some unused_thread
@@ -239,7 +239,7 @@ module _ (g : Setting) (who : Roles) (is : IsImageOf g who) where
   }
 
   -- all stand so
-  pub set_standing : Standing g all_rest who (set_watched who g.image) (told_start (of_kernel g.program))
+  pub set_standing : MatchStates g all_rest who (set_watched who g.image) (counted_start (of_kernel g.program))
   set_standing = record {
     clocks = refl;
     trace = refl;
@@ -252,7 +252,7 @@ module _ (g : Setting) (who : Roles) (is : IsImageOf g who) where
     roles = roles_begin g who is;
     reserves = reserves_begin g who start (laws_begin g.program is.obeys) (λ c t n r e. some_none (root_of g who is c t r _ e).none);
     used = λ c a e. let d = set_cores_are who g.image c a e in subst (AreUsedSo who c) (sym d.1) (used_begin c d.0);
-    threads = λ c t a e. let d = set_cores_are who g.image c a e in subst (λ i. Stands g true i start (set_life c t) (λ f. 0) (who c t)) (sym d.1) (threads_stand (set_life c t) refl c t (who c t) refl);
+    threads = λ c t a e. let d = set_cores_are who g.image c a e in subst (λ i. ThreadRel g true i start (set_life c t) (λ f. 0) (who c t)) (sym d.1) (threads_stand (set_life c t) refl c t (who c t) refl);
     loose = λ c a e some. let d = set_cores_are who g.image c a e in subst (λ i. AreLoose g who c i start) (sym d.1) (loose_begin c d.0 some);
     sizes = λ c a e. let d = set_cores_are who g.image c a e in ap sizes_of d.1 ∙ sizes_begin (parts_in g.image.cores c);
     roots = λ c a e. let d = set_cores_are who g.image c a e in ap (λ (i : CoreState). i.roots) d.1 ∙ is.count c d.0;

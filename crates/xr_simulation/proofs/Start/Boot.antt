@@ -24,7 +24,7 @@ use Rattle.xl_par.specs.Acquired.{Acquired, IsAmong, unused_in}
 use Rattle.xr_simulation.specs.Roles.{Role, got_by, unused, used_by}
 use Rattle.xr_simulation.specs.Runners.{IsMine, Setting, Runner, home}
 use Rattle.xr_simulation.specs.ThreadViews.{IsStable, LeadsIn, Rely, SpareFor, ThreadView, after, held_in, keeps, running, sync_in}
-use Rattle.xr_simulation.specs.Turns.{IsAt}
+use Rattle.xr_simulation.specs.NextStep.{IsAt}
 use Rattle.xr_simulation.proofs.RelyGuarantee.Arrival.{at_runs, same_use}
 use Rattle.xr_simulation.proofs.OwnSteps.Turns.{turn_is_row}
 use Rattle.xr_simulation.proofs.RelyGuarantee.ThreadViews.{leads_in_stable, then_leads}

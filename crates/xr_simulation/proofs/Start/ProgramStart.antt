@@ -22,7 +22,7 @@ use Rattle.xr_simulation.specs.Parents.{Parent, branches_of, syncs_of}
 use Rattle.xr_simulation.specs.Roles.{AreRoles, IsOnce, IsParent, Role, Roles, got_by, outermost, unused, used_by}
 use Rattle.xr_simulation.specs.Runners.{Setting, Runner}
 use Rattle.xr_simulation.specs.ThreadViews.{Owns, held_in, sync_in}
-use Rattle.xr_simulation.specs.Standing.{living_on, one_where}
+use Rattle.xr_simulation.specs.MatchStates.{living_on, one_where}
 use Rattle.xr_simulation.proofs.Relation.Roots.{none_found, numbered}
 
 -- a root as it starts

@@ -15,11 +15,11 @@ use Rattle.xr_simulation.specs.Images.{IsImageOf}
 use Rattle.xr_simulation.specs.Roles.{Roles, used_by}
 use Rattle.xr_simulation.specs.Runners.{Setting, Runner}
 use Rattle.xr_simulation.specs.Transfers.{Transfer}
-use Rattle.xr_simulation.specs.Wired.{AreWired, IsTransferring, at_rest, boxes_in}
+use Rattle.xr_simulation.specs.Wired.{AreWired, IsTransferring, idle, boxes_in}
 use Rattle.xr_simulation.proofs.Start.SetMachine.{set_cores_are, set_machine}
 use Rattle.xr_simulation.proofs.Start.ProgramStart.{root_of}
 use Rattle.xr_simulation.proofs.Channels.Wiring.{local_still}
-use Rattle.xr_channels.specs.Wires.{ends_in, start_ghosts}
+use Rattle.xr_channels.specs.Channels.{ends_in, start_ghosts}
 use Rattle.xr_channels.proofs.All.Chosen.{chosen_length}
 use Rattle.xr_channels.proofs.Tokens.Locals.{local_begins}
 
@@ -83,6 +83,6 @@ module _ (g : Setting) (who : Roles) (is : IsImageOf g who) where
     long = as_many g.program.channels;
     ends = λ c a e. let d = set_cores_are who g.image c a e in ap (λ (i : CoreState). length i.ends) d.1 ∙ length-replicate (parts_in g.image.cores c).ends boot_end;
     listed = λ core thread c side h. absurd (none_transfers core thread c side h);
-    stances = λ line c side at. at_rest (λ core thread h. none_transfers core thread c side h) refl refl;
+    stances = λ line c side at. idle (λ core thread h. none_transfers core thread c side h) refl refl;
     one = λ core thread core' thread' c side h k. absurd (none_transfers core thread c side h);
   }

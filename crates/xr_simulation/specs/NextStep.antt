@@ -49,7 +49,7 @@ use Rattle.xr_simulation.specs.Items.{EndAt, ItemsAt}
 use Rattle.xr_simulation.specs.Parents.{Parent, syncs_of}
 use Rattle.xl_statements.specs.Pieces.{Exit, LinesAt, PieceAt}
 use Rattle.xr_simulation.specs.Fits.{Fits, ItemsFit, greatest}
-use Rattle.xr_simulation.specs.Runners.{HoldsPlaces, Block, Setting, Runner, IsLaidOut, IsPort, code, end_place, home, plan, port_place, timer_place}
+use Rattle.xr_simulation.specs.Runners.{HoldsPlaces, Activation, Setting, Runner, IsLaidOut, IsPort, code, end_place, home, plan, port_place, timer_place}
 use Rattle.xr_simulation.specs.Sizes.{sizes_in, sizes_of}
 use Rattle.xr_simulation.specs.Transfers.{Transfer, AwaitsNothing, GoesWith, acts_left, items_behind}
 use Rattle.xr_simulation.specs.ThreadViews.{ThreadView, Rely, Guarantee, LeadsIn, after, giving_back, running, running_so}
@@ -196,7 +196,7 @@ IsReady (puts_out o v) x rest = eval x.store o.value ≡ word v
 IsReady (takes_in i) x rest = AwaitsNothing rest
 
 -- dp names a block's base and sp a word, and from r1 on stand the names of these synchronisers of a core, the first one's first
-pub record HasBasesBy (block : Block) (stack_word core : ℕ) (syncs : List ℕ) (regs : Regs) : Type 0 where
+pub record HasBasesBy (block : Activation) (stack_word core : ℕ) (syncs : List ℕ) (regs : Regs) : Type 0 where
   pub base : regs.dp ≡ 4 * block.base
   pub stack : regs.sp ≡ 4 * stack_word
   pub names : HoldsNames core syncs regs
@@ -254,14 +254,14 @@ module _ (g : Setting) (r : Runner) where
   -- between them. A store is what an earlier item left to be done: its word is in r0, and behind its code, with whatever registers,
   -- stands what comes next, which takes no event, as long as the parts of the core stay on which that stands. So is a stamp: its port
   -- has it, and what comes behind its code stands on no part of the core.
-  abbrev pub StandsAt : List Item → (j pc : ℕ) → Regs → CoreState → Type 0
-  StandsAt (stores place v ∷ rest) j pc regs core =
+  abbrev pub IsPlacedAt : List Item → (j pc : ℕ) → Regs → CoreState → Type 0
+  IsPlacedAt (stores place v ∷ rest) j pc regs core =
       (stored : ℕ) × (regs.r0 ≡ v) × LinesAt (code g r) (Stores (plan g r).vars place R0) pc stored × (is_watching rest ≡ false)
-      × ((regs' : Regs) (core' : CoreState) → HasBases regs' → SameParts g r.core rest core core' → StandsAt rest j stored regs' core')
-  StandsAt (stamps (resource.Port p) place v ∷ rest) j pc regs core =
+      × ((regs' : Regs) (core' : CoreState) → HasBases regs' → SameParts g r.core rest core core' → IsPlacedAt rest j stored regs' core')
+  IsPlacedAt (stamps (resource.Port p) place v ∷ rest) j pc regs core =
       (stored : ℕ) × HasStamp p v core × LinesAt (code g r) (Stamps (plan g r) (resource.Port p) place) pc stored
-      × (is_watching rest ≡ false) × ((regs' : Regs) (core' : CoreState) → HasBases regs' → StandsAt rest j stored regs' core')
-  StandsAt items j pc regs core = (exits : List Exit) × ItemsFrom items exits pc j
+      × (is_watching rest ≡ false) × ((regs' : Regs) (core' : CoreState) → HasBases regs' → IsPlacedAt rest j stored regs' core')
+  IsPlacedAt items j pc regs core = (exits : List Exit) × ItemsFrom items exits pc j
 
   -- the branch has these items, and the core has its words and ports
   pub record Has (items : List Item) (z : ThreadView) : Type 0 where
@@ -277,7 +277,7 @@ module _ (g : Setting) (r : Runner) where
     pub regs : Regs
     pub here : IsAtItems items z pc regs
     pub bases : HasBases regs
-    pub stands : StandsAt items j pc regs z.core
+    pub stands : IsPlacedAt items j pc regs z.core
     pub fits : ItemsFit g r items
     pub has : Has items z
 
@@ -470,7 +470,7 @@ module _ (g : Setting) (r : Runner) where
 
   -- Behind the last step of a transfer the thread stands at an index with these registers, whatever the core is then, and takes no event.
   abbrev pub IsBehind : List Item → (j index : ℕ) → Regs → Type 0
-  IsBehind items j index regs = HasBases regs × (is_watching items ≡ false) × ((core : CoreState) → StandsAt items j index regs core)
+  IsBehind items j index regs = HasBases regs × (is_watching items ≡ false) × ((core : CoreState) → IsPlacedAt items j index regs core)
 
   -- the branch has this transfer to do next, on a side of its channel in which it stands
   pub record IsOnChannel (used : KRes) : Type 0 where
@@ -521,22 +521,22 @@ module _ (g : Setting) (r : Runner) where
     pub takes_default : acts g.program g.stimulus x (default r.branch) ≡ None
 
   -- the thread's turn, beside what the branch can do
-  pub data Turn (j : ℕ) (y : ThreadView) : Type 0 where
-    pauses : slot (home g r) y.core r.thread ≡ Paused → CannotAct y.world → Turn j y
-    errs : Errs y → Turn j y
-    goes_on : Goes j y → Turn j y
-    frees : Frees y → Turn j y
-    waits_tied : Waits y → Turn j y
-    begins : Begins j y → Turn j y
-    communicates : (piece : Piece) → Communicates piece j y → Turn j y
+  pub data NextStep (j : ℕ) (y : ThreadView) : Type 0 where
+    pauses : slot (home g r) y.core r.thread ≡ Paused → CannotAct y.world → NextStep j y
+    errs : Errs y → NextStep j y
+    goes_on : Goes j y → NextStep j y
+    frees : Frees y → NextStep j y
+    waits_tied : Waits y → NextStep j y
+    begins : Begins j y → NextStep j y
+    communicates : (piece : Piece) → Communicates piece j y → NextStep j y
 
   -- whatever the others do before it
-  abbrev pub Turns : ℕ → ThreadView → Type 0
-  Turns j z = (y : ThreadView) → Rely g r z y → Turn j y
+  abbrev pub StableNextStep : ℕ → ThreadView → Type 0
+  StableNextStep j z = (y : ThreadView) → Rely g r z y → NextStep j y
 
   -- in at most n silent steps the thread is at the own instruction of the first item, with j jumps to be done behind it
   abbrev pub Leads : (n j : ℕ) → ThreadView → Type 0
-  Leads n j z = LeadsIn g r (Turns j) n z
+  Leads n j z = LeadsIn g r (StableNextStep j) n z
 
   -- a statement costs at most so many silent steps
   abbrev pub cost : ℕ

@@ -10,17 +10,17 @@ use Rattle.xs_instr.specs.declared.state.Token.{Token}
 use Rattle.xs_instr.specs.Ends.{Peer, peer_of}
 use Rattle.xs_instr.specs.Machine.{link_of}
 use Rattle.xc_meaning.specs.States.Channels.{Parcel, Side, first, second, other_side, Inboxes, no_parcels, parcels_at}
-use Rattle.xr_channels.specs.Phases.{between, streams, Spot, spot, Line}
-use Rattle.xr_channels.specs.Fresh.{Stands}
+use Rattle.xr_channels.specs.Phases.{between, streams, SideState, side_state, Direction}
+use Rattle.xr_channels.specs.ChannelRel.{ChannelRel}
 
 -- the links from each core to each
 abbrev pub Links : Type 0
 Links = List (List (List Item))
 
 -- the end of a side of a channel
-abbrev pub place : Pair → Side → Peer
-place p first = record { core = p.core; end = p.end }
-place p second = record { core = p.peer_core; end = p.peer_end }
+abbrev pub end_of_side : Pair → Side → Peer
+end_of_side p first = record { core = p.core; end = p.end }
+end_of_side p second = record { core = p.peer_core; end = p.peer_end }
 
 -- `tokens_at`, by cases
 abbrev pub tokens_in : Option ChanEnd → List Token
@@ -53,22 +53,22 @@ tokens_for e (i ∷ items) = token_for e i.moved (tokens_for e items)
 
 -- What neither the machine nor the program says: where each side of each channel stands, and what is to be put at a side.
 pub record Ghosts : Type 0 where
-  pub spots : (channel : ℕ) → Side → Spot
+  pub side_states : (channel : ℕ) → Side → SideState
   pub late : (channel : ℕ) → Side → List Parcel
 
 -- At the start each side is outside and in no piece, but on a streaming channel always in one, and nothing is late.
-abbrev pub start_spot : (is_streaming : Bool) → Spot
-start_spot true = spot streams true
-start_spot false = spot between false
+abbrev pub start_side_state : (is_streaming : Bool) → SideState
+start_side_state true = side_state streams true
+start_side_state false = side_state between false
 
 abbrev pub start_ghosts : (streaming : ℕ → Bool) → Ghosts
-start_ghosts streaming = record { spots = λ k side. start_spot (streaming k); late = λ k side. [] }
+start_ghosts streaming = record { side_states = λ k side. start_side_state (streaming k); late = λ k side. [] }
 
 -- the line to a side of a channel
-abbrev pub line : List CoreState → Links → List Inboxes → Ghosts → Pair → (channel : ℕ) → Side → Line
-line cores links inboxes g p k side =
-    let here = place p side in
-    let there = place p (other_side side) in
+abbrev pub direction_to : List CoreState → Links → List Inboxes → Ghosts → Pair → (channel : ℕ) → Side → Direction
+direction_to cores links inboxes g p k side =
+    let here = end_of_side p side in
+    let there = end_of_side p (other_side side) in
     record {
       buffer = tokens_at cores here.core here.end;
       link = tokens_for here.end (link_of links there.core here.core);
@@ -77,23 +77,23 @@ line cores links inboxes g p k side =
     }
 
 -- A channel of the image as its side sees it. Its number is that of its line, which is its place among the program's channels with two sides.
-abbrev pub TalkAt : List CoreState → Links → List Inboxes → Ghosts → Pair → (channel : ℕ) → Side → Type 0
-TalkAt cores links inboxes g p k side =
-    Stands (g.spots k side) (g.spots k (other_side side)) (line cores links inboxes g p k (other_side side)) (line cores links inboxes g p k side)
+abbrev pub ChannelRelAt : List CoreState → Links → List Inboxes → Ghosts → Pair → (channel : ℕ) → Side → Type 0
+ChannelRelAt cores links inboxes g p k side =
+    ChannelRel (g.side_states k side) (g.side_states k (other_side side)) (direction_to cores links inboxes g p k (other_side side)) (direction_to cores links inboxes g p k side)
 
 -- the channels of an image
-pub record Wires (pairs : List Pair) (cores : List CoreState) (links : Links) (inboxes : List Inboxes) (g : Ghosts) : Type 0 where
+pub record Channels (pairs : List Pair) (cores : List CoreState) (links : Links) (inboxes : List Inboxes) (g : Ghosts) : Type 0 where
   -- each stands as its sides do
-  pub talks : (k : ℕ) (p : Pair) → slice_get pairs k ≡ Some p → TalkAt cores links inboxes g p k first
+  pub talks : (k : ℕ) (p : Pair) → slice_get pairs k ≡ Some p → ChannelRelAt cores links inboxes g p k first
   -- and has its inboxes
   pub boxes : (k : ℕ) (p : Pair) → slice_get pairs k ≡ Some p → k < length inboxes
   -- within a core nothing is late
-  pub prompt : (k : ℕ) (p : Pair) (side : Side) → slice_get pairs k ≡ Some p → (place p side).core ≡ (place p (other_side side)).core → g.late k side ≡ []
+  pub prompt : (k : ℕ) (p : Pair) (side : Side) → slice_get pairs k ≡ Some p → (end_of_side p side).core ≡ (end_of_side p (other_side side)).core → g.late k side ≡ []
   -- nothing is on its way from a core to itself
   pub selves : (c : ℕ) → link_of links c c ≡ []
 
 -- Each end of an image's channels is one side of one of them, its peer is the other side, and there are four cores.
 pub record IsWired (pairs : List Pair) : Type 0 where
-  pub peers : (k : ℕ) (p : Pair) (side : Side) → slice_get pairs k ≡ Some p → peer_of pairs (place p side).core (place p side).end ≡ place p (other_side side)
-  pub once : (k : ℕ) (p : Pair) (side : Side) (k' : ℕ) (p' : Pair) (side' : Side) → slice_get pairs k ≡ Some p → slice_get pairs k' ≡ Some p' → place p side ≡ place p' side' → (k ≡ k') × (side ≡ side')
-  pub core : (k : ℕ) (p : Pair) (side : Side) → slice_get pairs k ≡ Some p → (place p side).core < 4
+  pub peers : (k : ℕ) (p : Pair) (side : Side) → slice_get pairs k ≡ Some p → peer_of pairs (end_of_side p side).core (end_of_side p side).end ≡ end_of_side p (other_side side)
+  pub once : (k : ℕ) (p : Pair) (side : Side) (k' : ℕ) (p' : Pair) (side' : Side) → slice_get pairs k ≡ Some p → slice_get pairs k' ≡ Some p' → end_of_side p side ≡ end_of_side p' side' → (k ≡ k') × (side ≡ side')
+  pub core : (k : ℕ) (p : Pair) (side : Side) → slice_get pairs k ≡ Some p → (end_of_side p side).core < 4

@@ -2,7 +2,7 @@ use Rattle.std.proofs.Common.{◌∙◌, subst, sym}
 use Rattle.xr_windows.specs.Merge.{rounds_of}
 use Rattle.xr_windows.specs.Rising.{Rising}
 use Rattle.xr_windows.proofs.Lasts.{last_rises, trace_is, trapped_is, word_is}
-use Rattle.xr_windows.proofs.merge.told.Goals as goal
+use Rattle.xr_windows.proofs.merge.merged_run.Goals as goal
 use Rattle.xs_fabric.specs.EndWord.{sight_sum, no_sight}
 
 pub merged-requires-clause-rising : goal.merged-requires-clause-rising

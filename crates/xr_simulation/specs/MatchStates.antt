@@ -19,7 +19,7 @@ use Rattle.xc_invariants.specs.Tree.{IsChild}
 use Rattle.xr_match.specs.Implements.{clock_of}
 use Rattle.xr_match.specs.Lives.{Life, Watched}
 use Rattle.xr_match.specs.Meanings.{of_kernel}
-use Rattle.xr_match.specs.Sources.{Told}
+use Rattle.xr_match.specs.Sources.{Counted}
 use Rattle.xr_match.specs.Systems.{SomeIs}
 use Rattle.xr_simulation.specs.Parents.{Parent}
 use Rattle.xr_simulation.specs.Roles.{AreRoles, AreUsedSo, AcquiredFits, HasReserves, IsParent, ParentsWait, Role, Roles, got_by, own_branches, unused, used_by}
@@ -28,7 +28,7 @@ use Rattle.xr_simulation.specs.Sizes.{sizes_in, sizes_of}
 use Rattle.xr_simulation.specs.ThreadViews.{ThreadView}
 use Rattle.xr_simulation.specs.Plain.{ArePlain}
 use Rattle.xr_simulation.specs.Transfers.{StopsIn, Transfer, steps_left}
-use Rattle.xr_simulation.specs.Turns.{GivesBack, InTransfer, IsJoining, Leads, PortIs, Rest, cost, is_watching}
+use Rattle.xr_simulation.specs.NextStep.{GivesBack, InTransfer, IsJoining, Leads, PortIs, Rest, cost, is_watching}
 use Rattle.xr_simulation.specs.Wired.{AreWired, HasAlone}
 
 -- one variable alone
@@ -78,16 +78,16 @@ module _ (g : Setting) (r : Runner) where
       (j : ℕ) × (steps_left transfer.phase + j + cost g r ≤ most) × InTransfer g r transfer items j z
 
   -- by whether it is inside one
-  abbrev pub StandsWith : (may_rest : Bool) → Option Transfer → List Item → (left : ℕ) → ThreadView → Type 0
-  StandsWith may_rest None items left z = IsOnItsWay left z ⊎ (IsResuming items left z ⊎ IfTrue may_rest (IsAtRest items left z))
-  StandsWith may_rest (Some transfer) items left z = IsTransferring transfer items left z
+  abbrev pub ProgressWith : (may_rest : Bool) → Option Transfer → List Item → (left : ℕ) → ThreadView → Type 0
+  ProgressWith may_rest None items left z = IsOnItsWay left z ⊎ (IsResuming items left z ⊎ IfTrue may_rest (IsAtRest items left z))
+  ProgressWith may_rest (Some transfer) items left z = IsTransferring transfer items left z
 
   -- what a thread does, by how its branch is, with so many steps left to it before the branch's next one; it may stand at rest, or not
-  abbrev pub StandsBy : (may_rest : Bool) → List Item → Mode → (left : ℕ) → ThreadView → Type 0
-  StandsBy may_rest items runs left z = StandsWith may_rest r.transfer items left z
-  StandsBy may_rest items (waits from count) left z = ⊥
-  StandsBy may_rest items ended left z = HasEnded r.parents left z
-  StandsBy may_rest items erred left z = z.hand ≡ None
+  abbrev pub ProgressBy : (may_rest : Bool) → List Item → Mode → (left : ℕ) → ThreadView → Type 0
+  ProgressBy may_rest items runs left z = ProgressWith may_rest r.transfer items left z
+  ProgressBy may_rest items (waits from count) left z = ⊥
+  ProgressBy may_rest items ended left z = HasEnded r.parents left z
+  ProgressBy may_rest items erred left z = z.hand ≡ None
 
   -- the thread that runs the branch
   pub record HasThread (mode : Mode) (items : List Item) (a : CoreState) : Type 0 where
@@ -98,7 +98,7 @@ module _ (g : Setting) (r : Runner) where
     pub is : ThreadIs r.parents mode thread.mode
 
   -- The thread runs this branch, in a life whose steps, with those that are left to it before the branch's next one, are within the bound.
-  pub record Stand
+  pub record RunsBranch
       (may_rest : Bool) (hand : Option Acquired) (a : CoreState) (x : World) (life : Life) (actions : (family : ℕ) → ℕ)
       (branch : Branch) : Type 0 where
     pub core : branch.core ≡ r.core
@@ -114,13 +114,13 @@ module _ (g : Setting) (r : Runner) where
     pub ends_tied : branch.mode ≡ ended → r.parents ≡ [] → (n : ℕ) × (r.tie ≡ Some n)
     pub left : ℕ
     pub bound : life.steps + left ≤ kernel_bound g.program * (actions r.family + 1)
-    pub by : StandsBy may_rest branch.items branch.mode left (record { core = a; world = x; hand = hand })
+    pub by : ProgressBy may_rest branch.items branch.mode left (record { core = a; world = x; hand = hand })
 
 -- what thread t of a core does: where it runs a branch it does that branch's work
-abbrev pub Stands : Setting → (may_rest : Bool) → CoreState → World → Life → (actions : ℕ → ℕ) → Role → Type 0
-Stands g may_rest a x life actions unused = Unit {0}
-Stands g may_rest a x life actions (got_by t) = life.steps ≡ 0
-Stands g may_rest a x life actions (used_by r hand) = SomeIs (slice_get x.branches r.branch) (Stand g r may_rest hand a x life actions)
+abbrev pub ThreadRel : Setting → (may_rest : Bool) → CoreState → World → Life → (actions : ℕ → ℕ) → Role → Type 0
+ThreadRel g may_rest a x life actions unused = Unit {0}
+ThreadRel g may_rest a x life actions (got_by t) = life.steps ≡ 0
+ThreadRel g may_rest a x life actions (used_by r hand) = SomeIs (slice_get x.branches r.branch) (RunsBranch g r may_rest hand a x life actions)
 
 -- What nobody may change is as the program has it, where a branch that waits uses it.
 
@@ -177,8 +177,8 @@ IsMade roots bs b = (b < roots) ⊎ ((n : ℕ) × IsChild bs n b)
 
 -- The two sides have the same clocks and trace, nothing is on its way between cores, each thread does what it should, the channels are wired so, and as many
 -- roots as branches of roots go on. Some threads may stand at rest.
-pub record Standing
-    (g : Setting) (may_rest : (core thread : ℕ) → Bool) (who : Roles) (w : Watched) (x : Told (of_kernel g.program)) : Type 0 where
+pub record MatchStates
+    (g : Setting) (may_rest : (core thread : ℕ) → Bool) (who : Roles) (w : Watched) (x : Counted (of_kernel g.program)) : Type 0 where
   pub clocks : map clock_of w.machine.cores ≡ x.state.clocks
   pub trace : w.machine.trace ≡ x.state.trace
   pub links : w.machine.links ≡ no_links
@@ -189,7 +189,7 @@ pub record Standing
   pub reserves : HasReserves g who x.state
   pub used : (c : ℕ) (a : CoreState) → slice_get w.machine.cores c ≡ Some a → AreUsedSo who c a
   pub threads : (c t : ℕ) (a : CoreState) → slice_get w.machine.cores c ≡ Some a →
-      Stands g (may_rest c t) a x.state (w.lives c t) x.actions (who c t)
+      ThreadRel g (may_rest c t) a x.state (w.lives c t) x.actions (who c t)
   pub loose : (c : ℕ) (a : CoreState) → slice_get w.machine.cores c ≡ Some a → 1 ≤ threads_on g.program c → AreLoose g who c a x.state
   pub sizes : (c : ℕ) (a : CoreState) → slice_get w.machine.cores c ≡ Some a → sizes_of a ≡ sizes_in (parts_in g.image.cores c)
   pub wired : AreWired g who w.machine x.state
