@@ -108,6 +108,6 @@ fn are_lettered(sides: &[Option<Side>], letters: &[u8]) -> bool {
 /// What a body uses is told, and branches are given their sides.
 #[test]
 fn uses_and_sides_are_told(rt: HostRuntime) {
-    let told = (is_use_told(rt.alloc()), wrong_branch(rt.alloc()));
-    assert_eq!(rt; told, (Ok(true), Ok(None)));
+    let results = (is_use_told(rt.alloc()), wrong_branch(rt.alloc()));
+    assert_eq!(rt; results, (Ok(true), Ok(None)));
 }

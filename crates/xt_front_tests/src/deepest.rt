@@ -439,7 +439,7 @@ sizes.txt: 22 cases, 0 differ
 
 #[test]
 fn deepest_programs(rt: HostRuntime) -> Result<(), Fail> {
-    let told = told_of(
+    let results = told_of(
         rt.alloc(),
         &[
             (Phase::Sizes, CHAINS),
@@ -447,6 +447,6 @@ fn deepest_programs(rt: HostRuntime) -> Result<(), Fail> {
             (Phase::Sizes, STATEMENTS),
         ],
     )?;
-    assert_eq!(rt; told.as_str(), WANTED);
+    assert_eq!(rt; results.as_str(), WANTED);
     Ok(())
 }

@@ -75,7 +75,7 @@ needs.txt: 5 cases, 0 differ
 
 #[test]
 fn rows_of_single_calls(rt: HostRuntime) -> Result<(), Fail> {
-    let told = told_of(
+    let results = told_of(
         rt.alloc(),
         &[
             (Phase::Names, NAMES),
@@ -83,6 +83,6 @@ fn rows_of_single_calls(rt: HostRuntime) -> Result<(), Fail> {
             (Phase::Needs, NEEDS),
         ],
     )?;
-    assert_eq!(rt; told.as_str(), WANTED);
+    assert_eq!(rt; results.as_str(), WANTED);
     Ok(())
 }

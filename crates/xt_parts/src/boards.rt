@@ -210,14 +210,19 @@ fn with_all_stopped<U: RunName + Send + Sync, R: Threads + Wait + Sync>(
 }
 
 /// Whether the run without locks of copies of an image and a stimulus tells the same.
-fn is_run_of_copies(alloc: Global, image: &Image, stim: &Stim, told: &Run) -> Result<bool, Memory>
+fn is_run_of_copies(
+    alloc: Global,
+    image: &Image,
+    stim: &Stim,
+    results: &Run,
+) -> Result<bool, Memory>
     requires image { Valid image.now }
     requires stim { IsGoodStim stim.now }
 {
     let image = image.copy(alloc)?;
     let stim = stim.copy(alloc)?;
     let run = run_alone(alloc, &image, &stim, 16)?;
-    Ok(is_alike(&run, told))
+    Ok(is_alike(&run, results))
 }
 
 /// The same of the run that is asked for.
@@ -235,13 +240,13 @@ fn all_stopped<R: Threads + Wait + Sync>(
 
 /// What the boards of one image tell: how many records, and whether its ticks stopped it, where a core was ahead from the start; whether workers of a
 /// stopped board tell the run; and whether two cores ran at the same time.
-type Told = (
+type Results = (
     Result<(usize, bool), Memory>,
     Result<bool, Memory>,
     Result<bool, Memory>,
 );
 
-fn told<R: Threads + Wait + Sync>(rt: &R, alloc: Global) -> Result<Told, ListingErr> {
+fn results<R: Threads + Wait + Sync>(rt: &R, alloc: Global) -> Result<Results, ListingErr> {
     let image = read_image(alloc, ENDLESS)?;
     let stim = Stim {
         lines: List::new(alloc),
@@ -268,5 +273,5 @@ fn boards_answer(rt: HostRuntime) {
     );
     assert_eq!(rt; table_told(&rt, rt.alloc()), Ok(table));
     let want = (Ok((2, true)), Ok(true), Ok(true));
-    assert_eq!(rt; told(&rt, rt.alloc()), Ok(want));
+    assert_eq!(rt; results(&rt, rt.alloc()), Ok(want));
 }

@@ -59,7 +59,7 @@ fn is_same<R: Threads + Wait + Sync>(
     image: &Image,
     stim: &Stim,
     workers: u32,
-    told: &Run,
+    results: &Run,
 ) -> Result<bool, Memory>
     requires image { Valid image.now }
     requires stim { IsGoodStim stim.now }
@@ -67,7 +67,7 @@ fn is_same<R: Threads + Wait + Sync>(
 {
     let counting = Counting::new();
     let run = run_by_workers(rt, alloc, image, stim, 16, workers, &counting)?;
-    Ok(counting.are(EACH_ONCE) && is_alike(&run, told))
+    Ok(counting.are(EACH_ONCE) && is_alike(&run, results))
 }
 
 /// Whether two workers run two cores at the same time, and each window once, and one worker and sixteen run each window once too, and

@@ -170,8 +170,8 @@ fn are_listings_so(alloc: Global) -> Result<[Result<bool, Memory>; 2], ListingEr
 /// Instructions, small pieces and records have their texts, and an image its listing; a fault in between leaves a front of it.
 #[test]
 fn texts_are_written(rt: HostRuntime) {
-    let told = (have_texts(rt.alloc()), are_listings_so(rt.alloc()));
-    assert_eq!(rt; told, (Ok(true), Ok([Ok(true); 2])));
+    let results = (have_texts(rt.alloc()), are_listings_so(rt.alloc()));
+    assert_eq!(rt; results, (Ok(true), Ok([Ok(true); 2])));
 }
 
 /// Good stimuli are read, bad ones are refused by the line and the rule, and so is a line behind 100,000.
@@ -183,6 +183,6 @@ fn stimuli_are_read_and_refused(rt: HostRuntime) {
         Ok(stimuli::wrong_bad_text(alloc)),
         stimuli::wrong_last_line(alloc),
     ];
-    let told = (wrong, stimuli::are_100000_lines_read(alloc));
-    assert_eq!(rt; told, ([Ok(None); 3], Ok(true)));
+    let results = (wrong, stimuli::are_100000_lines_read(alloc));
+    assert_eq!(rt; results, ([Ok(None); 3], Ok(true)));
 }
