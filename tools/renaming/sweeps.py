@@ -117,7 +117,6 @@ built so far was told by a date.""",
         Local("xc_size/src/measure.rt", "place", "placement"),
         Local("xc_size/proofs/measure", "place", "placement", True),
         Local("xc_lexer", "fresh", "at_line_start", True),
-        Local("xc_tree/specs/Pieces", "fresh", "at_line_start", True),
     ),
     {
         "xc_types/src/findings": "xc_types/src/checker",

@@ -29,12 +29,12 @@ pub piece_by : (text : List ℕ) (s s' : Stand) (t : List Tok) (f : List Fault) 
 piece_by text s s' t f x e p = subst (λ y. PieceOf text s y t f s') (sym e) p
 
 -- a piece was read that breaks no rule
-pub went : (text : List ℕ) (before after : State) (found toks more : List Tok) (end : ℕ) (at_line_start : Bool) (names : Names) → after ≡ record { place = record { at = end; pos = pos_at text end }; at_line_start = at_line_start; names = names } → length text ≤ 262144 → Piece text (stand before) found [] (record { at = end; at_line_start = at_line_start; numbers = numbers_of names }) → more ≡ toks ++ found → end ≤ length text → Went text before toks after more
+pub went : (text : List ℕ) (before after : State) (found toks more : List Tok) (end : ℕ) (at_line_start : Bool) (names : Names) → after ≡ record { place = record { at = end; pos = pos_at text end }; at_line_start = at_line_start; names = names } → length text ≤ 262144 → Piece text (stand before) found [] (record { at = end; fresh = at_line_start; numbers = numbers_of names }) → more ≡ toks ++ found → end ≤ length text → Went text before toks after more
 went text before after found toks more end at_line_start names e short p m l = record {
   found = found;
   next = subst (λ x. Piece text (stand before) found [] (stand x)) (sym e) p;
   pushed = m;
-  forth = let h = piece_after text (stand before) found [] (record { at = end; at_line_start = at_line_start; numbers = numbers_of names }) p in subst (λ x. before.place.at < x.place.at) (sym e) h.0;
+  forth = let h = piece_after text (stand before) found [] (record { at = end; fresh = at_line_start; numbers = numbers_of names }) p in subst (λ x. before.place.at < x.place.at) (sym e) h.0;
   place = subst (λ x. IsPlace text x.place) (sym e) (record { short = short; within = l; pos = refl });
 }
 
@@ -66,11 +66,11 @@ number_piece text s j r e a h =
     (piece_by text s (go_on s j) (number_token text s.at (reading (part text s.at j))) (number_faults s.at (reading (part text s.at j))) Digit e (j, a, refl, refl, refl))
 
 -- a `#` in a line's middle
-pub stray_hash : (text : List ℕ) (s : Stand) → start_at text s.at ≡ Hash → s.at_line_start ≡ false → Piece text s [] (fault 101 s.at) (go_on s (s.at + 1))
+pub stray_hash : (text : List ℕ) (s : Stand) → start_at text s.at ≡ Hash → s.fresh ≡ false → Piece text s [] (fault 101 s.at) (go_on s (s.at + 1))
 stray_hash text s e h = piece_by text s (go_on s (s.at + 1)) [] (fault 101 s.at) Hash e (refl, subst (λ b. HashAt text s b (fault 101 s.at) (go_on s (s.at + 1))) (sym h) (refl, refl))
 
 -- a `#` line
-pub hash_line : (text : List ℕ) (s s' : Stand) (f : List Fault) → start_at text s.at ≡ Hash → s.at_line_start ≡ true → HashLine text s f s' → Piece text s [] f s'
+pub hash_line : (text : List ℕ) (s s' : Stand) (f : List Fault) → start_at text s.at ≡ Hash → s.fresh ≡ true → HashLine text s f s' → Piece text s [] f s'
 hash_line text s s' f e h p = piece_by text s s' [] f Hash e (refl, subst (λ b. HashAt text s b f s') (sym h) p)
 
 -- how the line of a form ends, with what that breaks
@@ -90,9 +90,9 @@ pub later_than : (rule at i : ℕ) (f : List Fault) → at < i → Each (From i)
 later_than rule at i f h a = each_map (From i) (NotAfter (record { rule = rule; at = at })) f (λ g l. inl (omega arith)) a
 
 -- a `#define`, by what its name stands for and its number is read as
-pub define_piece : (text : List ℕ) (s : Stand) (name : List ℕ) (m k : ℕ) (e : Ended text k) (d : Option Number) (r : Reading) → start_at text s.at ≡ Hash → s.at_line_start ≡ true → Define text s.at name m k → s.numbers name ≡ d → reading (part text m k) ≡ r → Piece text s [] (again_faults s.at d ++ (number_faults m r ++ ending_faults e.ending)) (record { at = e.at; at_line_start = false; numbers = define s.numbers name r })
+pub define_piece : (text : List ℕ) (s : Stand) (name : List ℕ) (m k : ℕ) (e : Ended text k) (d : Option Number) (r : Reading) → start_at text s.at ≡ Hash → s.fresh ≡ true → Define text s.at name m k → s.numbers name ≡ d → reading (part text m k) ≡ r → Piece text s [] (again_faults s.at d ++ (number_faults m r ++ ending_faults e.ending)) (record { at = e.at; fresh = false; numbers = define s.numbers name r })
 define_piece text s name m k e d r q h form n w =
-    let after : Reading → Stand = λ x. record { at = e.at; at_line_start = false; numbers = define s.numbers name x } in
+    let after : Reading → Stand = λ x. record { at = e.at; fresh = false; numbers = define s.numbers name x } in
     let faults : Option Number → Reading → List Fault = λ y x. again_faults s.at y ++ (number_faults m x ++ ending_faults e.ending) in
     let p : Piece text s [] (faults (s.numbers name) (reading (part text m k))) (after (reading (part text m k))) =
     hash_line text s (after (reading (part text m k))) (faults (s.numbers name) (reading (part text m k))) q h (inr (inl (name, m, k, e.at, e.ending, form, e.tail, refl, refl))) in

@@ -54,7 +54,7 @@ module _ (text : List ℕ) (s : Stand) where
     line_faults name m k e = again_faults s.at (s.numbers name) ++ (number_faults m (reading (part text m k)) ++ ending_faults e)
 
     abbrev line_stand : List ℕ → ℕ → ℕ → ℕ → Stand
-    line_stand name m k j = record { at = j; at_line_start = false; numbers = define s.numbers name (reading (part text m k)) }
+    line_stand name m k j = record { at = j; fresh = false; numbers = define s.numbers name (reading (part text m k)) }
 
     define_line_one : DefineLine text s f r → DefineLine text s f2 r2 → SameLine
     define_line_one a b =
@@ -89,7 +89,7 @@ module _ (text : List ℕ) (s : Stand) where
     piece_of_one BlockComment (inl a) (inr b) = absurd (not_both a.1 b.0)
     piece_of_one BlockComment (inr a) (inl b) = absurd (not_both b.1 a.0)
     piece_of_one BlockComment (inr a) (inr b) = same_by a.1 a.2 a.3 b.1 b.2 b.3
-    piece_of_one Hash a b = let h = hash_one f f2 r r2 s.at_line_start a.1 b.1 in (b.0 ∙ sym a.0, h.0, h.1)
+    piece_of_one Hash a b = let h = hash_one f f2 r r2 s.fresh a.1 b.1 in (b.0 ∙ sym a.0, h.0, h.1)
     piece_of_one Letter a b =
         let h = span_one a.1 b.1 in
         same_by a.2 a.3 a.4 (b.2 ∙ ap (λ k. token text s.at (kind_of_word s.numbers (part text s.at k))) h) b.3 (b.4 ∙ ap (go_on s) h)
@@ -275,7 +275,7 @@ module _ (text : List ℕ) where
   piece_of_after s LineComment t f s' q a = after_by s s' _ f _ a.3 a.4 (longer a.1 (starts_line_comment (byte text s.at) (byte text (s.at + 1)) q)) tt
   piece_of_after s BlockComment t f s' q (inl a) = let l = a.1.after in after_by s s' _ f _ a.3 a.4 (omega arith) tt
   piece_of_after s BlockComment t f s' q (inr a) = let l = inside text s.at BlockComment q (λ f. cc) in after_by s s' _ f _ a.2 a.3 (omega arith) (omega arith, tt)
-  piece_of_after s Hash t f s' q a = hash_after s s.at_line_start f s' a.1
+  piece_of_after s Hash t f s' q a = hash_after s s.fresh f s' a.1
   piece_of_after s Letter t f s' q a = after_by s s' _ f _ a.3 a.4 (longer a.1 (starts_letter (byte text s.at) (byte text (s.at + 1)) q)) tt
   piece_of_after s Digit t f s' q a = after_by s s' _ f _ a.3 a.4 (longer a.1 (starts_digit (byte text s.at) (byte text (s.at + 1)) q)) (number_after s.at s.at _ (omega arith))
   piece_of_after s Other t f s' q (inl a) = after_by s s' _ f _ a.4 a.5 (longest_after text s.at a.0 a.1 a.2) tt

@@ -10,7 +10,7 @@ use Rattle.xc_lexer.specs.declared.lexer.State.{State}
 
 -- where a state stands
 abbrev pub stand : State → Stand
-stand s = record { at = s.place.at; at_line_start = s.at_line_start; numbers = numbers_of s.names }
+stand s = record { at = s.place.at; fresh = s.at_line_start; numbers = numbers_of s.names }
 
 -- one piece without a broken rule was read
 pub record Went (text : List ℕ) (before : State) (toks : List Tok) (after : State) (more : List Tok) : Type 0 where

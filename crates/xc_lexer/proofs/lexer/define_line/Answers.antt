@@ -63,7 +63,7 @@ returns-in_ok-define-in-At-clause-went c =
     let e : Ended text line.end = record { at = c.in-At.end; ending = ends; tail = a.0; after = a.1; later = tt } in
     let none = no_some c.number.result (sym c.is_some.ensures ∙ c.if-is_some.false) in
     let p = define_piece text (stand state) line.name.now line.number_at line.end e None (Fine c.in-Fine.number) c.requires.starts c.requires.at_line_start form.form (sym c.number.ensures ∙ none) (sym c.in-Fine.ensures) in
-    let q = subst (λ (x : Numbers). Piece text (stand state) [] [] (record { at = c.in-At.end; at_line_start = false; numbers = x })) (sym c.in_ok-define-in-At.ensures.ok) p in
+    let q = subst (λ (x : Numbers). Piece text (stand state) [] [] (record { at = c.in-At.end; fresh = false; numbers = x })) (sym c.in_ok-define-in-At.ensures.ok) p in
     went text state c.go_on.new.state [] c.args.toks.now c.args.toks.now c.in-At.end false c.define.new.self c.go_on.ensures.is c.requires.place.short q (sym (append-nil c.args.toks.now)) a.2
 
 pub returns-in-Unclosed-clause-broken : goal.returns-in-Unclosed-clause-broken

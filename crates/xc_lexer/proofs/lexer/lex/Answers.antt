@@ -12,7 +12,7 @@ unfolding pos_behind
 pieces-init c = record {
   place = record { short = c.if-text-gt-LONGEST.false; within = omega arith; pos = refl };
   so_far =
-      let at : Numbers → Stand = λ x. record { at = 0; at_line_start = true; numbers = x } in
+      let at : Numbers → Stand = λ x. record { at = 0; fresh = true; numbers = x } in
       subst (λ x. SoFar c.args.text.now (at x) c.new-toks.result) (sym c.new.ensures) (subst (SoFar c.args.text.now beginning) (sym c.new-toks.ensures) (start c.args.text.now));
 }
 

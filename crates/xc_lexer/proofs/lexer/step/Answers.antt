@@ -110,7 +110,7 @@ returns-in-Blank-clause-went c =
     let more = c.requires.more in
     went text state c.go_on.new.state [] c.args.toks.now c.args.toks.now (at + 1) state.at_line_start state.names
     c.go_on.ensures.is c.requires.place.short
-    (piece_by text (stand state) (record { at = at + 1; at_line_start = state.at_line_start; numbers = numbers_of state.names })
+    (piece_by text (stand state) (record { at = at + 1; fresh = state.at_line_start; numbers = numbers_of state.names })
     [] [] Blank (sym c.in-Blank.ensures.is) (refl, refl, refl))
     (sym (append-nil c.args.toks.now)) (omega (arith, more))
 
@@ -122,7 +122,7 @@ returns-in-LineEnd-clause-went c =
     let more = c.requires.more in
     went text state c.go_on-in-LineEnd.new.state [] c.args.toks.now c.args.toks.now (at + 1) true state.names
     c.go_on-in-LineEnd.ensures.is c.requires.place.short
-    (piece_by text (stand state) (record { at = at + 1; at_line_start = true; numbers = numbers_of state.names })
+    (piece_by text (stand state) (record { at = at + 1; fresh = true; numbers = numbers_of state.names })
     [] [] LineEnd (sym c.in-LineEnd.ensures.is) (refl, refl, refl))
     (sym (append-nil c.args.toks.now)) (omega (arith, more))
 
