@@ -13,4 +13,3 @@ pub mod MatchStates
 pub mod Settled
 pub mod Images
 pub mod Living
-pub mod StampedOutputs

@@ -26,12 +26,11 @@ use Rattle.xc_meaning.specs.States.Worlds.{World, only_if, with_record}
 use Rattle.xl_expr.specs.PartSteps.{KeptParts}
 use Rattle.xl_expr.specs.ResourceParts.{port_alone}
 use Rattle.xl_expr.proofs.Lists.{get_set_same, stand_back, stand_front}
-use Rattle.xl_port.specs.Outputs.{PutsOut, is_due, out_record, set_for}
+use Rattle.xl_port.specs.Outputs.{OutputOutcome, Outputs, PutsOut, ValueOutcome, driving_nodes, is_due, out_record, set_for}
 use Rattle.xl_port.specs.Stamps.{StampsTo}
 use Rattle.xl_statements.specs.Pieces.{Exit, LinesAt}
 use Rattle.xr_simulation.specs.Fits.{Fits, IsOutPort, ItemsFit, UsesSome}
 use Rattle.xr_simulation.specs.Runners.{Setting, Runner, IsLaidOut, code, home, plan, port_place, relied}
-use Rattle.xr_simulation.specs.StampedOutputs.{OutputOutcome, Outputs, ValueOutcome, driving_nodes}
 use Rattle.xr_simulation.specs.ThreadViews.{ThreadView, running}
 use Rattle.xr_simulation.specs.NextStep as turn
 use Rattle.xr_simulation.specs.NextStep.{Has, HasBases, HasStamp, IsAt, ItemsFrom, Leads, PortIs, IsPlacedAt, NextStep, cost}
