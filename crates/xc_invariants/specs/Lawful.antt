@@ -118,7 +118,9 @@ pub record BlocksAreDistinct (x : World) : Type 0 where
 
 -- This is so in each state of a checked kernel's runs.
 abbrev pub BlocksAreDistinctHolds : Type 0
-BlocksAreDistinctHolds = (K : kernel.Kernel) (s : Stim) (ms : List Action) (x : World) → IsChecked K → kernel_run K s ms ≡ Some x → BlocksAreDistinct x
+BlocksAreDistinctHolds =
+    (K : kernel.Kernel) (s : Stim) (ms : List Action) (x : World) →
+    IsChecked K → kernel_run K s ms ≡ Some x → BlocksAreDistinct x
 
 -- So the mark of a block stands once among the items of a branch.
 abbrev pub MarksStandOnce : Type 0

@@ -24,8 +24,10 @@ IsEight cores here there = credits_at cores here.core here.end + length (tokens_
 -- the law of credits, which holds while no token and no credit is on a link
 pub record Balanced (pairs : List Pair) (cores : List CoreState) : Type 0 where
   -- each side of a channel has its end
-  pub ends : (k : ℕ) (p : Pair) (side : Side) → slice_get pairs k ≡ Some p → (end_of_side p side).end < length (ends_in (slice_get cores (end_of_side p side).core))
-  pub eight : (k : ℕ) (p : Pair) (side : Side) → slice_get pairs k ≡ Some p → IsEight cores (end_of_side p side) (end_of_side p (other_side side))
+  pub ends : (k : ℕ) (p : Pair) (side : Side) → slice_get pairs k ≡ Some p →
+      (end_of_side p side).end < length (ends_in (slice_get cores (end_of_side p side).core))
+  pub eight : (k : ℕ) (p : Pair) (side : Side) → slice_get pairs k ≡ Some p →
+      IsEight cores (end_of_side p side) (end_of_side p (other_side side))
 
 -- What stands between the sides of channels whose two ends are each on one core: nothing is ever on a link.
 pub record Local (pairs : List Pair) (cores : List CoreState) (inboxes : List Inboxes) (g : Ghosts) : Type 0 where

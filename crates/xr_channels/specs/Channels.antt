@@ -64,7 +64,7 @@ start_side_state false = side_state between false
 abbrev pub start_ghosts : (streaming : ℕ → Bool) → Ghosts
 start_ghosts streaming = record { side_states = λ k side. start_side_state (streaming k); late = λ k side. [] }
 
--- the line to a side of a channel
+-- the direction to a side of a channel
 abbrev pub direction_to : List CoreState → Links → List Inboxes → Ghosts → Pair → (channel : ℕ) → Side → Direction
 direction_to cores links inboxes g p k side =
     let here = end_of_side p side in

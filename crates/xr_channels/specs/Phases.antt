@@ -141,7 +141,7 @@ reads_by sends_ack inside = inside
 reads_by was_closed inside = inside
 reads_by streams inside = inside
 
--- the same of a spot
+-- the same of the state of a side
 abbrev pub reads : SideState → Bool
 reads s = reads_by s.phase s.inside
 

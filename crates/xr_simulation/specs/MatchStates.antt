@@ -120,7 +120,8 @@ module _ (g : Setting) (r : Runner) where
 abbrev pub ThreadRel : Setting → (may_rest : Bool) → CoreState → World → Life → (actions : ℕ → ℕ) → Role → Type 0
 ThreadRel g may_rest a x life actions unused = Unit {0}
 ThreadRel g may_rest a x life actions (got_by t) = life.steps ≡ 0
-ThreadRel g may_rest a x life actions (used_by r hand) = SomeIs (slice_get x.branches r.branch) (RunsBranch g r may_rest hand a x life actions)
+ThreadRel g may_rest a x life actions (used_by r hand) =
+    SomeIs (slice_get x.branches r.branch) (RunsBranch g r may_rest hand a x life actions)
 
 -- What nobody may change is as the program has it, where a branch that waits uses it.
 
@@ -193,8 +194,8 @@ pub record MatchStates
   pub loose : (c : ℕ) (a : CoreState) → slice_get w.machine.cores c ≡ Some a → 1 ≤ threads_on g.program c → AreLoose g who c a x.state
   pub sizes : (c : ℕ) (a : CoreState) → slice_get w.machine.cores c ≡ Some a → sizes_of a ≡ sizes_in (parts_in g.image.cores c)
   pub wired : AreWired g who w.machine x.state
-  pub alone : (c t : ℕ) (r : Runner) (hand : Option Acquired) (transfer : Transfer) → who c t ≡ used_by r hand → r.transfer ≡ Some transfer →
-      HasAlone x.state.branches transfer.channel transfer.side r.branch
+  pub alone : (c t : ℕ) (r : Runner) (hand : Option Acquired) (transfer : Transfer) → who c t ≡ used_by r hand →
+      r.transfer ≡ Some transfer → HasAlone x.state.branches transfer.channel transfer.side r.branch
   pub roots : (c : ℕ) (a : CoreState) → slice_get w.machine.cores c ≡ Some a → a.roots ≡ living_on c x.state.branches
   pub placed : (b : ℕ) (branch : Branch) → slice_get x.state.branches b ≡ Some branch → branch.core < 4
   pub run : (b : ℕ) (branch : Branch) → slice_get x.state.branches b ≡ Some branch → has_ended branch.mode ≡ false → IsRun who b
