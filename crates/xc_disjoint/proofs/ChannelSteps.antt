@@ -11,7 +11,7 @@ use Rattle.xc_kernel.proofs.Forms.{branch-KBranch}
 use Rattle.xc_disjoint.specs.declared.uses.Use.{Use}
 use Rattle.xc_disjoint.specs.declared.uses.Held.TheVariants.{Apart}
 use Rattle.xc_disjoint.specs.Uses.{Uses, Shares, no_uses, some_after, all_after, all_with, of_statement, of_statements, with_branches, of_case, of_cases}
-use Rattle.xc_disjoint.proofs.Steps.{drop_item}
+use Rattle.xw_words.proofs.Lists.{drop_item}
 
 -- two functions that agree everywhere are the same
 pub same_uses : {f g : Uses} → ((c : ℕ) → f c ≡ g c) → f ≡ g

@@ -21,7 +21,7 @@ use Rattle.xc_disjoint.proofs.FootprintSteps.{both_each}
 use Rattle.xc_disjoint.specs.Behind.{ClashesBy, ClashesBehind}
 use Rattle.xc_disjoint.proofs.FirstSoFar.{some_same, none_same, Goes, goes_on}
 use Rattle.xc_disjoint.proofs.Covered.{covered_first, covered_second}
-use Rattle.xc_disjoint.proofs.Steps.{drop_item}
+use Rattle.xw_words.proofs.Lists.{drop_item}
 
 -- Lists of `par`s.
 

@@ -9,7 +9,7 @@ use Rattle.xc_kernel.specs.Plain.{operands, statements, branches, cases}
 use Rattle.xc_kernel.specs.Things.{Thing}
 use Rattle.xc_kernel.proofs.Forms.{forms}
 use Rattle.xc_disjoint.specs.Footprints.{Uses, nothing, both, of_expression, of_operands, of_statement, of_statements, of_branch, of_branches, of_case, of_cases}
-use Rattle.xc_disjoint.proofs.Steps.{drop_item}
+use Rattle.xw_words.proofs.Lists.{drop_item}
 
 -- two functions that agree everywhere are the same
 pub same_uses : {f g : Uses} → ((th : Thing) → f th ≡ g th) → f ≡ g

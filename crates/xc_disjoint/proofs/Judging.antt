@@ -22,7 +22,7 @@ use Rattle.xc_disjoint.specs.Judged.{one_sided_at, rule_by, rule_of}
 use Rattle.xc_disjoint.proofs.Users.{Has, user_bound, user_same}
 use Rattle.xc_disjoint.proofs.Holding.{Seconds, Holder, HeldBy, UsedBy}
 use Rattle.xc_disjoint.proofs.WholeUses.{of_whole}
-use Rattle.xc_disjoint.proofs.Steps.{drop_found}
+use Rattle.xw_words.proofs.Lists.{drop_found}
 
 module _ (k : kernel.Kernel) where
   abbrev roots : kernel.Branches

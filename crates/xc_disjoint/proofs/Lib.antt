@@ -1,4 +1,3 @@
-pub mod Steps
 mod ThreadSteps
 mod UseSteps
 mod Limits

@@ -7,7 +7,7 @@ use Rattle.xc_kernel.specs.Kernels.{statement_of, branch_of, case_of}
 use Rattle.xc_kernel.specs.Plain.{statements, branches, cases}
 use Rattle.xc_disjoint.specs.Sums.{capped}
 use Rattle.xc_disjoint.specs.Threads.{of_statement, of_statements, of_branch, of_branches, of_case, of_cases}
-use Rattle.xc_disjoint.proofs.Steps.{drop_item}
+use Rattle.xw_words.proofs.Lists.{drop_item}
 
 pub capped_one : capped 1 ≡ 1
 unfolding capped

@@ -12,7 +12,7 @@ use Rattle.xc_tree.specs.Least.{first_of}
 use Rattle.xc_disjoint.specs.Leasts.{first_among}
 use Rattle.xc_disjoint.specs.Places.{rule_of_use}
 use Rattle.xc_kernel.specs.Uses.{Use, of_channel, of_statement, of_statements, of_branch, of_branches, of_case, of_cases}
-use Rattle.xc_disjoint.proofs.Steps.{drop_item}
+use Rattle.xw_words.proofs.Lists.{drop_item}
 
 -- of a list behind another
 pub first_append : {V : Type 0} (f : V → Option Broken) (best : Option Broken) (xs ys : List V) → first_among f best (xs ++ ys) ≡ first_among f (first_among f best xs) ys

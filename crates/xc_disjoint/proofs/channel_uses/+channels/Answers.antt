@@ -8,25 +8,25 @@ use Rattle.xc_kernel.proofs.Forms.{statement-Zero, statement-Set, statement-Out,
 use Rattle.xc_disjoint.specs.Uses.{all_after, of_cases, of_statements, with_branches}
 use Rattle.xc_disjoint.specs.UseTables.{shares_in, uses_in}
 use Rattle.xc_disjoint.proofs.ChannelSteps.{after_none, none_before, after_each, statements_step, cases_step, branches_step}
-use Rattle.xc_disjoint.proofs.Steps.{drop_past}
+use Rattle.std.proofs.lemmas.List.{drop_all}
 use Rattle.xc_disjoint.proofs.channel_uses.+channels.Goals as goal
 
 pub cases-returns : goal.cases-returns
 cases-returns t c =
     sym (c.loop-c.invariant
-    ∙ ap (λ (cs : List KCase). all_after (uses_in c.loop-c.table) (of_cases (plain.cases (map case_of cs)))) (drop_past c.args.all.now c.loop-c.c-index c.loop-c-test.false)
+    ∙ ap (λ (cs : List KCase). all_after (uses_in c.loop-c.table) (of_cases (plain.cases (map case_of cs)))) (drop_all c.loop-c.c-index c.args.all.now c.loop-c-test.false)
     ∙ after_none (uses_in c.loop-c.table))
 
 pub statements-returns : goal.statements-returns
 statements-returns t c =
     sym (c.loop-s.invariant
-    ∙ ap (λ (ss : List Kst). all_after (uses_in c.loop-s.table) (of_statements (plain.statements (map statement_of ss)))) (drop_past c.args.ss.now c.loop-s.s-index c.loop-s-test.false)
+    ∙ ap (λ (ss : List Kst). all_after (uses_in c.loop-s.table) (of_statements (plain.statements (map statement_of ss)))) (drop_all c.loop-s.s-index c.args.ss.now c.loop-s-test.false)
     ∙ after_none (uses_in c.loop-s.table))
 
 pub branches-returns : goal.branches-returns
 branches-returns t c =
     sym (c.loop-b.invariant
-    ∙ ap (λ (bs : List KBranch). with_branches (shares_in c.loop-b.par) (plain.branches (map branch_of bs))) (drop_past c.args.all.now c.loop-b.b-index c.loop-b-test.false))
+    ∙ ap (λ (bs : List KBranch). with_branches (shares_in c.loop-b.par) (plain.branches (map branch_of bs))) (drop_all c.loop-b.b-index c.args.all.now c.loop-b-test.false))
 
 pub statements-loop-s-preserved : goal.statements-loop-s-preserved
 statements-loop-s-preserved t c =

@@ -13,41 +13,41 @@ use Rattle.xc_disjoint.specs.Footprints.{Uses, both, uses_in, of_branches, of_ca
 use Rattle.xc_disjoint.proofs.FirstSoFar.{Goes, goes_end}
 use Rattle.xc_disjoint.proofs.Clashing.{no_clash, statements_go, cases_go, branches_go, statements_more, cases_more, branches_next}
 use Rattle.xc_disjoint.proofs.FootprintSteps.{both_nothing, nothing_both, both_each}
-use Rattle.xc_disjoint.proofs.Steps.{drop_past}
+use Rattle.std.proofs.lemmas.List.{drop_all}
 use Rattle.xc_disjoint.proofs.clashes.+statements.Goals as goal
 
 pub statements-returns-clause-uses : goal.statements-returns-clause-uses
 statements-returns-clause-uses t c =
     sym (c.loop-s.invariant.0
-    ∙ ap (λ (xs : List Kst). both (uses_in c.loop-s.footprint) (of_statements (plain.statements (map statement_of xs)))) (drop_past c.args.all.now c.loop-s.s-index c.loop-s-test.false)
+    ∙ ap (λ (xs : List Kst). both (uses_in c.loop-s.footprint) (of_statements (plain.statements (map statement_of xs)))) (drop_all c.loop-s.s-index c.args.all.now c.loop-s-test.false)
     ∙ both_nothing (uses_in c.loop-s.footprint))
 
 pub cases-returns-clause-uses : goal.cases-returns-clause-uses
 cases-returns-clause-uses t c =
     sym (c.loop-c.invariant.0
-    ∙ ap (λ (xs : List KCase). both (uses_in c.loop-c.footprint) (of_cases (plain.cases (map case_of xs)))) (drop_past c.args.all.now c.loop-c.c-index c.loop-c-test.false)
+    ∙ ap (λ (xs : List KCase). both (uses_in c.loop-c.footprint) (of_cases (plain.cases (map case_of xs)))) (drop_all c.loop-c.c-index c.args.all.now c.loop-c-test.false)
     ∙ both_nothing (uses_in c.loop-c.footprint))
 
 pub branches-returns-clause-uses : goal.branches-returns-clause-uses
 branches-returns-clause-uses t c =
     sym (c.loop-b.invariant.0
-    ∙ ap (λ (xs : List KBranch). both (uses_in c.loop-b.whole) (of_branches (plain.branches (map branch_of xs)))) (drop_past c.args.all.now c.loop-b.b-index c.loop-b-test.false)
+    ∙ ap (λ (xs : List KBranch). both (uses_in c.loop-b.whole) (of_branches (plain.branches (map branch_of xs)))) (drop_all c.loop-b.b-index c.args.all.now c.loop-b-test.false)
     ∙ both_nothing (uses_in c.loop-b.whole))
 
 pub statements-returns-clause-first : goal.statements-returns-clause-first
 statements-returns-clause-first t c =
     goes_end (Clashes (pars.of_statements (plain.statements (map statement_of c.args.all.now)))) (Clashes []) c.loop-s.best no_clash
-    (subst (λ (xs : List Kst). Goes (Clashes (pars.of_statements (plain.statements (map statement_of c.args.all.now)))) (Clashes (pars.of_statements (plain.statements (map statement_of xs)))) c.loop-s.best) (drop_past c.args.all.now c.loop-s.s-index c.loop-s-test.false) c.loop-s.invariant.1)
+    (subst (λ (xs : List Kst). Goes (Clashes (pars.of_statements (plain.statements (map statement_of c.args.all.now)))) (Clashes (pars.of_statements (plain.statements (map statement_of xs)))) c.loop-s.best) (drop_all c.loop-s.s-index c.args.all.now c.loop-s-test.false) c.loop-s.invariant.1)
 
 pub cases-returns-clause-first : goal.cases-returns-clause-first
 cases-returns-clause-first t c =
     goes_end (Clashes (pars.of_cases (plain.cases (map case_of c.args.all.now)))) (Clashes []) c.loop-c.best no_clash
-    (subst (λ (xs : List KCase). Goes (Clashes (pars.of_cases (plain.cases (map case_of c.args.all.now)))) (Clashes (pars.of_cases (plain.cases (map case_of xs)))) c.loop-c.best) (drop_past c.args.all.now c.loop-c.c-index c.loop-c-test.false) c.loop-c.invariant.1)
+    (subst (λ (xs : List KCase). Goes (Clashes (pars.of_cases (plain.cases (map case_of c.args.all.now)))) (Clashes (pars.of_cases (plain.cases (map case_of xs)))) c.loop-c.best) (drop_all c.loop-c.c-index c.args.all.now c.loop-c-test.false) c.loop-c.invariant.1)
 
 pub branches-returns-clause-first : goal.branches-returns-clause-first
 branches-returns-clause-first t c =
     goes_end (ClashesBehind (uses_in c.args.whole.now) (plain.branches (map branch_of c.args.all.now))) (ClashesBehind (uses_in c.loop-b.whole) plain.no_branch) c.loop-b.best (λ b h. h)
-    (subst (λ (xs : List KBranch). Goes (ClashesBehind (uses_in c.args.whole.now) (plain.branches (map branch_of c.args.all.now))) (ClashesBehind (uses_in c.loop-b.whole) (plain.branches (map branch_of xs))) c.loop-b.best) (drop_past c.args.all.now c.loop-b.b-index c.loop-b-test.false) c.loop-b.invariant.1)
+    (subst (λ (xs : List KBranch). Goes (ClashesBehind (uses_in c.args.whole.now) (plain.branches (map branch_of c.args.all.now))) (ClashesBehind (uses_in c.loop-b.whole) (plain.branches (map branch_of xs))) c.loop-b.best) (drop_all c.loop-b.b-index c.args.all.now c.loop-b-test.false) c.loop-b.invariant.1)
 
 pub behind-returns-clause-first : goal.behind-returns-clause-first
 behind-returns-clause-first t c =

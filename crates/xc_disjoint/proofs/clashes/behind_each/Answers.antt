@@ -9,7 +9,7 @@ use Rattle.xc_disjoint.specs.Behind.{ClashesBy, ClashesBehind}
 use Rattle.xc_disjoint.specs.Footprints.{both, uses_in, of_statements}
 use Rattle.xc_disjoint.proofs.FirstSoFar.{Goes, goes_end}
 use Rattle.xc_disjoint.proofs.Clashing.{branches_go, roots_next}
-use Rattle.xc_disjoint.proofs.Steps.{drop_past}
+use Rattle.std.proofs.lemmas.List.{drop_all}
 use Rattle.xc_disjoint.proofs.clashes.behind_each.Goals as goal
 
 pub loop-root-preserved : goal.loop-root-preserved
@@ -24,4 +24,4 @@ loop-root-preserved c =
 pub returns : goal.returns
 returns c =
     goes_end (ClashesBehind (uses_in c.args.whole.now) (branches_of (map root_of c.args.roots.now))) (ClashesBehind (uses_in c.loop-root.whole) plain.no_branch) c.loop-root.best (λ b h. h)
-    (subst (λ (xs : List Root). Goes (ClashesBehind (uses_in c.args.whole.now) (branches_of (map root_of c.args.roots.now))) (ClashesBehind (uses_in c.loop-root.whole) (branches_of (map root_of xs))) c.loop-root.best) (drop_past c.args.roots.now c.loop-root.root-index c.loop-root-test.false) c.loop-root.invariant)
+    (subst (λ (xs : List Root). Goes (ClashesBehind (uses_in c.args.whole.now) (branches_of (map root_of c.args.roots.now))) (ClashesBehind (uses_in c.loop-root.whole) (branches_of (map root_of xs))) c.loop-root.best) (drop_all c.loop-root.root-index c.args.roots.now c.loop-root-test.false) c.loop-root.invariant)

@@ -1,7 +1,8 @@
 use Rattle.std.proofs.Common.{drop, ◌+◌, sym, ap, ◌∙◌}
 use Rattle.xc_disjoint.specs.Footprints.{Numbers, members}
 use Rattle.xc_disjoint.proofs.Sets.{with_each, each_is_all}
-use Rattle.xc_disjoint.proofs.Steps.{drop_found, drop_past}
+use Rattle.xw_words.proofs.Lists.{drop_found}
+use Rattle.std.proofs.lemmas.List.{drop_all}
 use Rattle.xc_disjoint.proofs.footprint.insert_each.Goals as goal
 
 pub loop-at-preserved : goal.loop-at-preserved
@@ -12,5 +13,5 @@ loop-at-preserved c =
 
 pub returns : goal.returns
 returns c =
-    sym (c.loop-at.invariant ∙ ap (with_each (members c.loop-at.numbers.keys)) (drop_past c.args.others.now.keys c.loop-at.at (rw (← c.len-at-end.ensures.len) c.loop-at-test.false)))
+    sym (c.loop-at.invariant ∙ ap (with_each (members c.loop-at.numbers.keys)) (drop_all c.loop-at.at c.args.others.now.keys (rw (← c.len-at-end.ensures.len) c.loop-at-test.false)))
     ∙ each_is_all (members c.args.numbers.now.keys) c.args.others.now.keys

@@ -5,7 +5,7 @@ use Rattle.xc_disjoint.proofs.FirstSoFar.{Goes, goes_end}
 use Rattle.xc_disjoint.specs.declared.uses.Use.{Use}
 use Rattle.xc_disjoint.specs.Judged.{rule_of}
 use Rattle.xc_disjoint.proofs.Judging.{AnyOf, of_all, channel_go}
-use Rattle.xc_disjoint.proofs.Steps.{drop_past}
+use Rattle.std.proofs.lemmas.List.{drop_all}
 use Rattle.xc_disjoint.proofs.judge.first_of.Goals as goal
 
 pub returns : goal.returns
@@ -14,7 +14,7 @@ returns c =
     let es = c.args.table.now.entries.entries in
     of_all k es c.requires c.loop-at.best
     (goes_end (AnyOf k es) (AnyOf k []) c.loop-at.best (λ b h. h)
-    (subst (λ (xs : List (ℕ × Use)). Goes (AnyOf k es) (AnyOf k xs) c.loop-at.best) (drop_past es c.loop-at.at (rw (← c.len-at-end.ensures.len) c.loop-at-test.false)) c.loop-at.invariant))
+    (subst (λ (xs : List (ℕ × Use)). Goes (AnyOf k es) (AnyOf k xs) c.loop-at.best) (drop_all c.loop-at.at es (rw (← c.len-at-end.ensures.len) c.loop-at-test.false)) c.loop-at.invariant))
 
 pub loop-at-preserved : goal.loop-at-preserved
 loop-at-preserved c =

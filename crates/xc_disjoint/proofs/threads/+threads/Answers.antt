@@ -7,7 +7,7 @@ use Rattle.xc_kernel.specs.Plain as plain
 use Rattle.xc_kernel.proofs.Forms.{statement-Zero, statement-Set, statement-Out, statement-In, statement-If, statement-Loop, statement-Block, statement-Exit, statement-Select, statement-Par, statement-Tran, branch-KBranch, case-KCase, select-KSelect}
 use Rattle.xc_disjoint.specs.Sums.{capped}
 use Rattle.xc_disjoint.specs.Threads.{of_branch, of_branches, of_case, of_cases, of_statement, of_statements}
-use Rattle.xc_disjoint.proofs.Steps.{drop_past}
+use Rattle.std.proofs.lemmas.List.{drop_all}
 use Rattle.xc_disjoint.proofs.ThreadSteps.{capped_one, capped_max, greater, added, added_none, statements_step, branches_step, cases_step}
 use Rattle.xc_disjoint.proofs.threads.+threads.Goals as goal
 
@@ -31,14 +31,14 @@ pub of_sequence-returns : goal.of_sequence-returns
 of_sequence-returns t c =
     c.max.ensures
     ∙ sym (c.loop-s.invariant
-    ∙ ap (λ (ss : List Kst). max c.loop-s.most (capped (of_statements (plain.statements (map statement_of ss))))) (drop_past c.args.ss.now c.loop-s.s-index c.loop-s-test.false)
+    ∙ ap (λ (ss : List Kst). max c.loop-s.most (capped (of_statements (plain.statements (map statement_of ss))))) (drop_all c.loop-s.s-index c.args.ss.now c.loop-s-test.false)
     ∙ ap (max c.loop-s.most) capped_one)
 
 pub of_all_cases-returns : goal.of_all_cases-returns
 of_all_cases-returns t c =
     c.max.ensures
     ∙ sym (c.loop-case.invariant
-    ∙ ap (λ (cs : List KCase). max c.loop-case.most (capped (of_cases (plain.cases (map case_of cs))))) (drop_past c.args.cases.now c.loop-case.case-index c.loop-case-test.false)
+    ∙ ap (λ (cs : List KCase). max c.loop-case.most (capped (of_cases (plain.cases (map case_of cs))))) (drop_all c.loop-case.case-index c.args.cases.now c.loop-case-test.false)
     ∙ ap (max c.loop-case.most) capped_one)
 
 pub of_one_case-returns : goal.of_one_case-returns
@@ -100,7 +100,7 @@ of_all_branches-loop-branch-preserved t c =
 pub of_all_branches-returns : goal.of_all_branches-returns
 of_all_branches-returns t c =
     sym (c.loop-branch.invariant.0
-    ∙ ap (λ (bs : List KBranch). min (c.loop-branch.sum + capped (of_branches (plain.branches (map branch_of bs)))) (2 ^ 64 - 1)) (drop_past c.args.branches.now c.loop-branch.branch-index c.loop-branch-test.false)
+    ∙ ap (λ (bs : List KBranch). min (c.loop-branch.sum + capped (of_branches (plain.branches (map branch_of bs)))) (2 ^ 64 - 1)) (drop_all c.loop-branch.branch-index c.args.branches.now c.loop-branch-test.false)
     ∙ added_none c.loop-branch.sum c.loop-branch.invariant.1)
 
 pub of_all_branches-loop-branch-init : goal.of_all_branches-loop-branch-init

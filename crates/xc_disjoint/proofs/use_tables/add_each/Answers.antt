@@ -2,7 +2,8 @@ use Rattle.std.proofs.Common.{drop, ◌+◌, sym, ap, ◌∙◌}
 use Rattle.xc_disjoint.specs.Uses.{Shares, with_use}
 use Rattle.xc_disjoint.specs.UseTables.{found, uses_in, with_ones}
 use Rattle.xc_disjoint.proofs.UseEntries.{with_entries, all_shares, added}
-use Rattle.xc_disjoint.proofs.Steps.{drop_found, drop_past}
+use Rattle.xw_words.proofs.Lists.{drop_found}
+use Rattle.std.proofs.lemmas.List.{drop_all}
 use Rattle.xc_disjoint.proofs.use_tables.add_each.Goals as goal
 
 pub loop-at-preserved : goal.loop-at-preserved
@@ -18,5 +19,5 @@ loop-at-preserved c =
 pub returns : goal.returns
 returns c =
     let start = with_ones (found c.args.shared.now.entries) (uses_in c.args.largest.now) in
-    sym (c.loop-at.invariant ∙ ap (with_entries c.args.pos (with_ones (found c.loop-at.shared.entries) (uses_in c.args.largest.now))) (drop_past c.args.branch.now.entries.entries c.loop-at.at (rw (← c.len-at-end.ensures.len) c.loop-at-test.false)))
+    sym (c.loop-at.invariant ∙ ap (with_entries c.args.pos (with_ones (found c.loop-at.shared.entries) (uses_in c.args.largest.now))) (drop_all c.loop-at.at c.args.branch.now.entries.entries (rw (← c.len-at-end.ensures.len) c.loop-at-test.false)))
     ∙ all_shares c.args.pos start c.args.branch.now.entries.entries c.len-at-end.ensures.unique

@@ -4,7 +4,8 @@ use Rattle.xc_disjoint.specs.declared.uses.Share.{Share}
 use Rattle.xc_disjoint.specs.Uses.{Uses, use_of}
 use Rattle.xc_disjoint.specs.UseTables.{uses_in, with_entry}
 use Rattle.xc_disjoint.proofs.UseEntries.{put_all, all_used}
-use Rattle.xc_disjoint.proofs.Steps.{drop_found, drop_past}
+use Rattle.xw_words.proofs.Lists.{drop_found}
+use Rattle.std.proofs.lemmas.List.{drop_all}
 use Rattle.xc_disjoint.proofs.use_tables.settle.Goals as goal
 
 pub loop-at-preserved : goal.loop-at-preserved
@@ -21,5 +22,5 @@ pub returns : goal.returns
 returns c =
     let by = λ (k : ℕ) (s : Share). use_of s in
     let entries = c.args.shared.now.entries in
-    sym (c.loop-at.invariant ∙ ap (put_all by (uses_in c.loop-at.largest)) (drop_past entries c.loop-at.at (rw (← c.len-at-end.ensures.len) c.loop-at-test.false)))
+    sym (c.loop-at.invariant ∙ ap (put_all by (uses_in c.loop-at.largest)) (drop_all c.loop-at.at entries (rw (← c.len-at-end.ensures.len) c.loop-at-test.false)))
     ∙ all_used (uses_in c.args.largest.now) entries c.len-at-end.ensures.unique

@@ -2,7 +2,8 @@ use Rattle.std.proofs.Common.{Some, drop, ◌+◌, sym, ap, ◌∙◌}
 use Rattle.xc_disjoint.specs.Uses.{Shares}
 use Rattle.xc_disjoint.specs.UseTables.{found, or_one}
 use Rattle.xc_disjoint.proofs.UseEntries.{ones_each, all_ones, spelt}
-use Rattle.xc_disjoint.proofs.Steps.{drop_found, drop_past}
+use Rattle.xw_words.proofs.Lists.{drop_found}
+use Rattle.std.proofs.lemmas.List.{drop_all}
 use Rattle.xc_disjoint.proofs.use_tables.spell_out.Goals as goal
 
 pub loop-at-preserved : goal.loop-at-preserved
@@ -17,5 +18,5 @@ loop-at-preserved c =
 
 pub returns : goal.returns
 returns c =
-    sym (c.loop-at.invariant ∙ ap (ones_each (found c.loop-at.shared.entries)) (drop_past c.args.largest.now.entries.entries c.loop-at.at (rw (← c.len-at-end.ensures.len) c.loop-at-test.false)))
+    sym (c.loop-at.invariant ∙ ap (ones_each (found c.loop-at.shared.entries)) (drop_all c.loop-at.at c.args.largest.now.entries.entries (rw (← c.len-at-end.ensures.len) c.loop-at-test.false)))
     ∙ all_ones (found c.args.shared.now.entries) c.args.largest.now.entries.entries c.len-at-end.ensures.unique

@@ -3,7 +3,8 @@ use Rattle.xc_disjoint.specs.declared.uses.Share.{Share}
 use Rattle.xc_disjoint.specs.Uses.{Shares}
 use Rattle.xc_disjoint.specs.UseTables.{found, uses_in, updated_by, with_entry}
 use Rattle.xc_disjoint.proofs.UseEntries.{put_all, all_updated, empty_shares}
-use Rattle.xc_disjoint.proofs.Steps.{drop_found, drop_past}
+use Rattle.xw_words.proofs.Lists.{drop_found}
+use Rattle.std.proofs.lemmas.List.{drop_all}
 use Rattle.xc_disjoint.proofs.use_tables.with_larger.Goals as goal
 
 pub loop-at-preserved : goal.loop-at-preserved
@@ -20,7 +21,7 @@ loop-at-preserved c =
 pub returns : goal.returns
 returns c =
     let by = λ (k : ℕ) (s : Share). updated_by c.args.pos s (uses_in c.args.branch.now k) in
-    sym (c.loop-at.invariant ∙ ap (put_all by (found c.loop-at.all.entries)) (drop_past c.args.shared.now.entries c.loop-at.at (rw (← c.len-at-end.ensures.len) c.loop-at-test.false)))
+    sym (c.loop-at.invariant ∙ ap (put_all by (found c.loop-at.all.entries)) (drop_all c.loop-at.at c.args.shared.now.entries (rw (← c.len-at-end.ensures.len) c.loop-at-test.false)))
     ∙ all_updated c.args.pos (uses_in c.args.branch.now) c.args.shared.now.entries c.len-at-end.ensures.unique
 
 pub loop-at-init : goal.loop-at-init

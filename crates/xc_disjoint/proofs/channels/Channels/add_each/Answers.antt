@@ -7,7 +7,8 @@ use Rattle.xc_disjoint.specs.RootUses.{RootUse, seen_in, seen_of}
 use Rattle.xc_disjoint.specs.Uses.{Shares, all_with, with_branches}
 use Rattle.xc_disjoint.specs.UseTables.{shares_in}
 use Rattle.xc_disjoint.proofs.RootSteps.{pushed_root}
-use Rattle.xc_disjoint.proofs.Steps.{drop_item, drop_past}
+use Rattle.xw_words.proofs.Lists.{drop_item}
+use Rattle.std.proofs.lemmas.List.{drop_all}
 use Rattle.xc_disjoint.proofs.channels.Channels.add_each.Goals as goal
 
 pub loop-root-preserved : goal.loop-root-preserved
@@ -34,4 +35,4 @@ pub returns-clause-among_roots : goal.returns-clause-among_roots
 returns-clause-among_roots c =
     sym (c.loop-root.invariant.1
     ∙ ap (λ (xs : List Root). with_branches (shares_in c.loop-root.self.among_roots) (branches_of (map root_of xs)))
-    (drop_past c.args.roots.now c.loop-root.root-index c.loop-root-test.false))
+    (drop_all c.loop-root.root-index c.args.roots.now c.loop-root-test.false))

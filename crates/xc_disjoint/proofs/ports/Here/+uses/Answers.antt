@@ -8,24 +8,24 @@ use Rattle.xc_kernel.specs.Uses.{of_branches, of_cases, of_statements}
 use Rattle.xc_kernel.proofs.Forms.{statement-Zero, statement-Set, statement-Out, statement-In, statement-If, statement-Loop, statement-Block, statement-Exit, statement-Select, statement-Par, statement-Tran, branch-KBranch, case-KCase, select-KSelect}
 use Rattle.xc_disjoint.specs.Leasts.{first_among}
 use Rattle.xc_disjoint.specs.Places.{rule_of_use}
-use Rattle.xc_disjoint.proofs.Steps.{drop_past}
+use Rattle.std.proofs.lemmas.List.{drop_all}
 use Rattle.xc_disjoint.proofs.UseSteps.{first_append, channel_step, statements_step, cases_step, branches_step}
 use Rattle.xc_disjoint.proofs.ports.Here.+uses.Goals as goal
 
 pub in_statements-returns : goal.in_statements-returns
 in_statements-returns t c =
     sym (c.loop-s.invariant
-    ∙ ap (λ (ss : List Kst). first_among (rule_of_use c.args.self.now.ports.now c.args.self.now.core) c.loop-s.best (of_statements (plain.statements (map statement_of ss)))) (drop_past c.args.ss.now c.loop-s.s-index c.loop-s-test.false))
+    ∙ ap (λ (ss : List Kst). first_among (rule_of_use c.args.self.now.ports.now c.args.self.now.core) c.loop-s.best (of_statements (plain.statements (map statement_of ss)))) (drop_all c.loop-s.s-index c.args.ss.now c.loop-s-test.false))
 
 pub in_cases-returns : goal.in_cases-returns
 in_cases-returns t c =
     sym (c.loop-c.invariant
-    ∙ ap (λ (cs : List KCase). first_among (rule_of_use c.args.self.now.ports.now c.args.self.now.core) c.loop-c.best (of_cases (plain.cases (map case_of cs)))) (drop_past c.args.cases.now c.loop-c.c-index c.loop-c-test.false))
+    ∙ ap (λ (cs : List KCase). first_among (rule_of_use c.args.self.now.ports.now c.args.self.now.core) c.loop-c.best (of_cases (plain.cases (map case_of cs)))) (drop_all c.loop-c.c-index c.args.cases.now c.loop-c-test.false))
 
 pub in_branches-returns : goal.in_branches-returns
 in_branches-returns t c =
     sym (c.loop-b.invariant
-    ∙ ap (λ (bs : List KBranch). first_among (rule_of_use c.args.self.now.ports.now c.args.self.now.core) c.loop-b.best (of_branches (plain.branches (map branch_of bs)))) (drop_past c.args.branches.now c.loop-b.b-index c.loop-b-test.false))
+    ∙ ap (λ (bs : List KBranch). first_among (rule_of_use c.args.self.now.ports.now c.args.self.now.core) c.loop-b.best (of_branches (plain.branches (map branch_of bs)))) (drop_all c.loop-b.b-index c.args.branches.now c.loop-b-test.false))
 
 pub in_statements-loop-s-preserved : goal.in_statements-loop-s-preserved
 in_statements-loop-s-preserved t c =
