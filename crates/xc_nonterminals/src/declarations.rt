@@ -57,8 +57,7 @@ impl<'a> Parser<'a> {
     /// A declaration of channels or timers.
     fn resource_declaration(&self, at: usize) -> Result<Read<Stmt>, Stop>
         requires short { length self.now.toks.now < 2 ^ 32 }
-        requires begins {
-            OneOf self.now.toks.now at (terminal.chan_word ∷ terminal.timer_word ∷ []) }
+        requires begins { OneOf self.now.toks.now at (terminal.chan_word ∷ terminal.timer_word ∷ []) }
         ensures bounds { IfOk result (λ r. (at < r.end) × (r.end ≤ length self.now.toks.now)) }
         ensures read { IfOk result (λ r. (room : ℕ) → 1 ≤ room →
             Reads self.now.toks.now room symbol.decl at r.end (trees.statement_of r.value)) }
@@ -97,8 +96,7 @@ impl<'a> Parser<'a> {
     fn word_declaration(&self, at: usize, room: u32) -> Result<Read<Stmt>, Stop>
         requires short { length self.now.toks.now < 2 ^ 32 }
         requires room { 1 ≤ room }
-        requires begins {
-            OneOf self.now.toks.now at (terminal.int_word ∷ terminal.unsigned_word ∷ []) }
+        requires begins { OneOf self.now.toks.now at (terminal.int_word ∷ terminal.unsigned_word ∷ []) }
         ensures bounds { IfOk result (λ r. (at < r.end) × (r.end ≤ length self.now.toks.now)) }
         ensures read { IfOk result
             (λ r. Reads self.now.toks.now room symbol.decl at r.end (trees.statement_of r.value)) }

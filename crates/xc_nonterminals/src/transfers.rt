@@ -71,8 +71,7 @@ impl<'a> Parser<'a> {
     pub fn input_statement(&self, at: usize, room: u32) -> Result<Read<Stmt>, Stop>
         requires short { length self.now.toks.now < 2 ^ 32 }
         requires name { StandsAt self.now.toks.now at a_name }
-        requires begins {
-            OneOf self.now.toks.now (at + 1) (terminal.receives ∷ terminal.when_word ∷ []) }
+        requires begins { OneOf self.now.toks.now (at + 1) (terminal.receives ∷ terminal.when_word ∷ []) }
         ensures bounds { IfOk result (λ r. (at < r.end) × (r.end ≤ length self.now.toks.now)) }
         ensures read { IfOk result (λ r. Reads self.now.toks.now
             (room + 1) symbol.statement at r.end (trees.statement_of r.value)) }
@@ -89,8 +88,7 @@ impl<'a> Parser<'a> {
     pub fn transfer(&self, at: usize, room: u32) -> Result<Read<Stmt>, Stop>
         requires short { length self.now.toks.now < 2 ^ 32 }
         requires name { StandsAt self.now.toks.now at a_name }
-        requires begins {
-            OneOf self.now.toks.now (at + 1) (terminal.sends ∷ terminal.at_sign ∷ []) }
+        requires begins { OneOf self.now.toks.now (at + 1) (terminal.sends ∷ terminal.at_sign ∷ []) }
         ensures bounds { IfOk result (λ r. (at < r.end) × (r.end ≤ length self.now.toks.now)) }
         ensures read { IfOk result (λ r. Reads self.now.toks.now
             (room + 1) symbol.statement at r.end (trees.statement_of r.value)) }
