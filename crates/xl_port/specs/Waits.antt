@@ -51,9 +51,9 @@ cond_of PinsEqual = Eq
 cond_of PinsDiffer = Neq
 cond_of AfterTime = After
 
--- The instructions on the port or timer that r11 names: those that set it, by the word in r10, and the transfer's own. The word of the time or
--- condition comes to r10, which an output's value leaves, so both words are there before the resource is touched. It is cleared first (SETC),
--- so nothing has to be known of how it is set between two transfers.
+-- The instructions on the port or timer that r11 names: those that set it, by the word in r10, and the transfer's own. The word of the
+-- time or condition comes to r10, which an output's value leaves, so both words are there before the resource is touched. It is cleared
+-- first (SETC), so nothing has to be known of how it is set between two transfers.
 
 abbrev pub setting_instrs : Waits → List Instr
 setting_instrs AtOnce = Setc R11 NoCond ∷ []
