@@ -5,7 +5,6 @@ use Rattle.xc_tree.specs.declared.tree.TreeDir.{TreeDir}
 use Rattle.xc_tree.specs.declared.tree.TreeDir.TheVariants.{In, Out, Both}
 use Rattle.xc_tree.specs.Types.Entities.{drives, reads}
 use Rattle.xs_instr.specs.Ports.{can_receive, can_send}
-use Rattle.xc_kernel.specs.Conditions.{AsksForPins, AsksForTime}
 use Rattle.xc_kernel.specs.declared.kernel.PortUse.{PortUse}
 use Rattle.xc_kernel.specs.declared.kernel.Var.{Var}
 use Rattle.xc_kernel.specs.declared.statement.KRes.{KRes}
@@ -17,8 +16,7 @@ use Rattle.xc_meaning.proofs.Basics.{none_given, same_number, or_left, or_right}
 use Rattle.xc_disjoint.specs.Checked.{IsChecked}
 use Rattle.xc_wellformed.specs.Each.{AnyExpression, AnyPlace, AnyNumber, AnyOutput, AnyInput, EachBranch, EachCondition, EachMaybe, EachPlace, EachStatement, EachOf}
 use Rattle.xc_wellformed.specs.Numbers.{IsVariable, IsListed, NumbersInExpression, NumbersInOperands, NumbersInPlace}
-use Rattle.xc_wellformed.specs.Transfers as lawful
-use Rattle.xc_wellformed.specs.Transfers.{GoesOut, ComesIn, InputComes, OutputGoes}
+use Rattle.xc_wellformed.specs.Transfers.{GoesOut, ComesIn, InputComes, IsNothing, OutputGoes}
 use Rattle.xl_expr.specs.declared.plan.VarPlan.{VarPlan}
 use Rattle.xl_expr.specs.Frames.{HasVars, HaveVars, HasPlace, variable_of}
 use Rattle.xl_expr.specs.Plans.{var_in}
@@ -43,17 +41,8 @@ receives In h = h
 receives Out h = h
 receives Both h = h
 
--- What a transfer asks for is the same in the kernel's laws.
-
-pins_asked : (c : Option kernel.Condition) → lawful.AsksForPins c → AsksForPins c
-pins_asked None h = tt
-pins_asked (Some c) h = h
-
-time_asked : (c : Option kernel.Condition) → lawful.AsksForTime c → AsksForTime c
-time_asked None h = tt
-time_asked (Some c) h = h
-
-no_time : (time : Option kernel.Expression) → lawful.IsNothing time → time ≡ None
+-- a timer's input has no time
+no_time : (time : Option kernel.Expression) → IsNothing time → time ≡ None
 no_time None h = refl
 no_time (Some x) h = absurd h
 
@@ -168,8 +157,8 @@ module _ (g : Setting) (checked : IsChecked g.program) (core : ℕ) (root : kern
     asks_fit : (s : KRes) (time : Option kernel.Expression) (condition : Option kernel.Condition) (stamp : Option kernel.Place) →
         InputComes g.program.ports (length g.program.channels) (length g.program.timers) s time condition stamp →
         AsksRightly g r s time condition
-    asks_fit (Port p) time condition stamp h = pins_asked condition h.1.1
-    asks_fit (Timer t) time condition stamp h = (no_time time h.1.0, time_asked condition h.1.1.0)
+    asks_fit (Port p) time condition stamp h = h.1.1
+    asks_fit (Timer t) time condition stamp h = (no_time time h.1.0, h.1.1.0)
     asks_fit (Chan c) time condition stamp h = tt
 
     resource_fits : (s : KRes) (time : Option kernel.Expression) (stamp : Option kernel.Place) →

@@ -1,4 +1,4 @@
--- An input, by what it comes from: a port, a timer or a channel.
+-- An input, by what it comes from.
 use Rattle.std.proofs.Common.{◌≡◌, refl}
 use Rattle.xc_kernel.specs.declared.statement.KRes.{KRes}
 use Rattle.xc_kernel.specs.declared.statement.KRes.TheVariants.{Port, Timer, Chan}

@@ -9,11 +9,9 @@ use Rattle.xs_instr.specs.declared.state.CoreState.{CoreState}
 use Rattle.xs_instr.specs.declared.state.Port.{Port}
 use Rattle.xs_instr.specs.declared.state.Regs.{Regs}
 use Rattle.xs_instr.specs.declared.state.Res.{Res}
-use Rattle.xs_instr.specs.declared.state.Res.TheVariants.{Port as ResPort, Timer as ResTimer, End as ResEnd}
 use Rattle.xs_instr.specs.declared.state.Timer.{Timer}
 use Rattle.xs_instr.specs.declared.trace.Record.{Record}
 use Rattle.xs_instr.specs.Did.{Made, Paused}
-use Rattle.xs_instr.specs.Events.{vector_of}
 use Rattle.xs_instr.specs.Machine.{and_then, noted}
 use Rattle.xs_instr.specs.OwnSteps.{IsApart}
 use Rattle.xs_instr.specs.Slot.{slot}
@@ -30,15 +28,15 @@ use Rattle.xc_meaning.specs.States.Items.{Item, does}
 use Rattle.xc_meaning.specs.States.Branches.{Branch}
 use Rattle.xc_meaning.specs.States.Worlds.{World, go, take, default, only_if}
 use Rattle.xl_expr.specs.PartSteps.{KeptParts, WithinParts}
-use Rattle.xl_expr.specs.ResourceParts.{OtherPartsStay, resource_state, timer_alone}
+use Rattle.xl_expr.specs.ResourceParts.{OtherPartsStay}
 use Rattle.xl_expr.specs.Works as works
 use Rattle.xl_expr.proofs.Lists.{get_set_same, get_set_other}
-use Rattle.xl_expr.proofs.ResourceParts.{enabled_same, others_fewer, others_of_port}
+use Rattle.xl_expr.proofs.ResourceParts.{others_fewer, others_of_port, others_of_timer}
 use Rattle.xr_simulation.specs.Fits.{ItemsFit}
 use Rattle.xr_simulation.specs.Runners.{IsLaidOut, IsMine, IsPort, IsTimer, Setting, Runner, home, port_place, relied, timer_place}
 use Rattle.xr_simulation.specs.ThreadViews.{ThreadView, running}
 use Rattle.xr_simulation.specs.NextStep as turn
-use Rattle.xr_simulation.specs.NextStep.{Goes, Has, HasBases, IsAt, Leads, PortsStand, Runs, IsPlacedAt, NextStep, cost, is_watching, own_go}
+use Rattle.xr_simulation.specs.NextStep.{Goes, Has, HasBases, IsAt, Leads, PortsStand, Rest, Runs, IsPlacedAt, NextStep, cost, is_watching, own_go}
 use Rattle.xr_simulation.proofs.ItemCode.Evaluations.{item_acts, runs_with, value_errs, with_items}
 use Rattle.xr_simulation.proofs.ItemCode.OnResources.{resource_leads}
 use Rattle.xr_simulation.proofs.Relation.PortDeclarations.{declared_there, made_declared}
@@ -46,24 +44,6 @@ use Rattle.xr_simulation.proofs.Relation.Sizes.{made_sizes}
 use Rattle.xr_simulation.proofs.RelyGuarantee.Arrival.{Since, alone_mine, apart_from, parts_kept, timer_alone_mine}
 use Rattle.xr_simulation.proofs.RelyGuarantee.Events.{here_at}
 use Rattle.xr_simulation.proofs.RelyGuarantee.Layouts.{has_since_port}
-
--- a step that sets one timer alone
-others_of_timer : (t n : ℕ) (a b : CoreState) → ((m : ℕ) → (m ≡ n → ⊥) → slice_get b.timers m ≡ slice_get a.timers m) →
-    b.ports ≡ a.ports → b.events ≡ a.events → OtherPartsStay (timer_alone n) t a b
-others_of_timer t n a b others ports events = record {
-  parts = by;
-  enabled = λ u res ne m h. enabled_same u a.events b.events res events h;
-  no_more_enabled = λ u res ne h. enabled_same u b.events a.events res (sym events) h;
-}
-  where
-    by : (res : Res) → (timer_alone n res → ⊥) → resource_state b res ≡ resource_state a res
-    by (ResPort q) ne =
-        ap (λ l. record { port = slice_get l q; timer = None; vector = vector_of b.events (ResPort q) }) ports
-        ∙ ap (λ e. record { port = slice_get a.ports q; timer = None; vector = vector_of e (ResPort q) }) events
-    by (ResTimer q) ne =
-        ap (λ o. record { port = None; timer = o; vector = vector_of b.events (ResTimer q) }) (others q (λ e. ne (ap ResTimer e)))
-        ∙ ap (λ e. record { port = None; timer = slice_get a.timers q; vector = vector_of e (ResTimer q) }) events
-    by (ResEnd q) ne = ap (λ e. record { port = None; timer = None; vector = vector_of e (ResEnd q) }) events
 
 -- a statement is no select
 module _ (g : Setting) (b : ℕ) (x : World) (branch : Branch) (t : kernel.Statement) (rest : List Item)
@@ -196,57 +176,61 @@ module _ (g : Setting) (r : Runner) where
           let on = declared_there q.core.ports by.ports (port_place g r p) was.port same was.there in
           record { port = on.0; there = on.1; declared = on.2 ∙ was.declared }
 
-      both_pass : acts g.program g.stimulus q.world (go r.branch) ≡ Some (passed items made) → Goes g r j q
-      both_pass acted =
+      -- the thread is where these items are to be done
+      stands_behind : Rest g r items j (record { core = left; world = passed items made; hand = None })
+      stands_behind =
           let next = runs_with q.world r.branch has_still.branch (does t ∷ rest) items has_still.runs in
           record {
-            left = left;
-            made = made;
-            made_is = by.moves.made_is;
-            guarantee = record {
-              clock = refl;
-              others = λ u ne not_held. get_set_other q.core.threads r.thread u (running r.tie by.pc by.regs) ne;
-              as_many = length-set q.core.threads r.thread (running r.tie by.pc by.regs);
-              words = λ n not_mine. refl;
-              sizes = made_sizes (home g r) q.core r.thread left made by.moves.made_is;
-              resources = by.moves.resources;
-            };
-            roots = refl;
-            syncs = refl;
-            channel_ends = refl;
-            no_hand = at.since.hand ∙ at.no_hand;
-            items = items;
-            acts = record {
-              branch = has_still.branch;
-              known = has_still.runs.known;
-              mode = has_still.runs.running;
+            pc = by.pc;
+            regs = by.regs;
+            here = here_at items by.unwatched (get_set_same q.core.threads r.thread
+                (running r.tie by.moves.index by.moves.was) (running r.tie by.pc by.regs) by.moves.here);
+            bases = by.bases;
+            stands = by.stands;
+            fits = by.fits;
+            has = record {
+              branch = record has_still.branch { items = items };
+              runs = record { known = next.known; running = next.running; items_are = refl };
               core = has_still.core;
-              world = passed items made;
-              action = go r.branch;
-              own = own_go;
-              acted = acted;
-              is_next = record { clocks = refl; branches = refl; store = λ u c. refl; trace = refl };
-              inboxes = refl;
-            };
-            jumps = j;
-            fewer = omega arith;
-            rest = record {
-              pc = by.pc;
-              regs = by.regs;
-              here = here_at items by.unwatched (get_set_same q.core.threads r.thread
-                  (running r.tie by.moves.index by.moves.was) (running r.tie by.pc by.regs) by.moves.here);
-              bases = by.bases;
-              stands = by.stands;
-              fits = by.fits;
-              has = record {
-                branch = record has_still.branch { items = items };
-                runs = record { known = next.known; running = next.running; items_are = refl };
-                core = has_still.core;
-                holds = record { holds = has_still.holds.holds; room = has_still.holds.room };
-                ports = ports_stand;
-              };
+              holds = record { holds = has_still.holds.holds; room = has_still.holds.room };
+              ports = ports_stand;
             };
           }
+
+      both_pass : acts g.program g.stimulus q.world (go r.branch) ≡ Some (passed items made) → Goes g r j q
+      both_pass acted = record {
+        left = left;
+        made = made;
+        made_is = by.moves.made_is;
+        guarantee = record {
+          clock = refl;
+          others = λ u ne not_held. get_set_other q.core.threads r.thread u (running r.tie by.pc by.regs) ne;
+          as_many = length-set q.core.threads r.thread (running r.tie by.pc by.regs);
+          words = λ n not_mine. refl;
+          sizes = made_sizes (home g r) q.core r.thread left made by.moves.made_is;
+          resources = by.moves.resources;
+        };
+        roots = refl;
+        syncs = refl;
+        channel_ends = refl;
+        no_hand = at.since.hand ∙ at.no_hand;
+        items = items;
+        acts = record {
+          branch = has_still.branch;
+          known = has_still.runs.known;
+          mode = has_still.runs.running;
+          core = has_still.core;
+          world = passed items made;
+          action = go r.branch;
+          own = own_go;
+          acted = acted;
+          is_next = record { clocks = refl; branches = refl; store = λ u c. refl; trace = refl };
+          inboxes = refl;
+        };
+        jumps = j;
+        fewer = omega arith;
+        rest = stands_behind;
+      }
 
     -- it passes on both sides, or neither goes on
     pub transfer_turn : (j : ℕ) (may_pass : Bool) (items : List Item) (made : Option Record) →
