@@ -1,26 +1,17 @@
 //! What stands among tokens.
 
-ghost use Rattle.std.specs.Prelude.{◌≡◌, false, IsTrue, ◌↔◌};
+ghost use Rattle.std.specs.Prelude.{IsTrue, ◌↔◌};
 ghost use Rattle.xc_today.specs.Today as today;
 
-use xc_tree::words::{
-    IN_WORD, MASTER_WORD, ON_WORD, OUT_WORD, PORT_WORD, SELECT_WORD, SLAVE_WORD, TIMER_WORD,
-};
+use xc_tree::words::{MASTER_WORD, ON_WORD, SELECT_WORD, SLAVE_WORD};
 use xc_tree::{Kind, Tok};
 
 /// The words of later forms.
-const LATER_WORDS: [u8; 6] = [
-    IN_WORD,
-    MASTER_WORD,
-    ON_WORD,
-    SELECT_WORD,
-    SLAVE_WORD,
-    TIMER_WORD,
-];
+const LATER_WORDS: [u8; 4] = [MASTER_WORD, ON_WORD, SELECT_WORD, SLAVE_WORD];
 
-/// Whether no word of a later form stands among tokens.
-pub fn are_supported(toks: &[Tok]) -> bool
-    ensures { IsTrue result ↔ today.TokensAreSupported toks.now }
+/// Whether the program that tokens are is built today: no word of a later form stands among them.
+pub fn is_supported(toks: &[Tok]) -> bool
+    ensures { IsTrue result ↔ today.IsSupported toks.now }
 {
     let mut rest = toks;
     'each: while let [first, behind @ ..] = rest {
@@ -56,30 +47,4 @@ fn is_none_of(places: &[u8], place: u8) -> bool
         rest = behind;
     }
     true
-}
-
-/// Whether each `port` stands right behind an `out`.
-pub fn ports_are_out(toks: &[Tok]) -> bool
-    ensures { IsTrue result ↔ today.PortsAreOut false toks.now }
-{
-    let mut behind_out = false;
-    let mut rest = toks;
-    'each: while let [first, behind @ ..] = rest {
-        if is_word(&first.kind, PORT_WORD) && !behind_out {
-            return false;
-        }
-        behind_out = is_word(&first.kind, OUT_WORD);
-        rest = behind;
-    }
-    true
-}
-
-/// Whether a token is this word.
-fn is_word(kind: &Kind, word: u8) -> bool
-    ensures { result ≡ today.is_word word kind.now }
-{
-    match kind {
-        Kind::Key(place) => *place == word,
-        _ => false,
-    }
 }
