@@ -12,5 +12,4 @@ pub mod Gathering
 mod TodayRules
 pub mod TodayEarly
 pub mod TodayCopied
-pub mod TodayPorts
 pub mod TodayBuilt

@@ -9,7 +9,7 @@ use Rattle.xc_kernel.specs.declared.statement.KRes.{KRes}
 use Rattle.xc_kernel.specs.declared.statement.KRes.TheVariants.{Port, Timer as Clock, Chan}
 use Rattle.xc_kernel.specs.Plain as kernel
 use Rattle.xc_kernel.specs.Numbering.{Numbering}
-use Rattle.xc_kernel.specs.Programs.{Function, functions, ports, main_of, name_of_main}
+use Rattle.xc_kernel.specs.Programs.{Function, functions, main_of, name_of_main}
 use Rattle.xc_kernel.specs.Context.{Context}
 use Rattle.xc_kernel.specs.Calls.{CopiesCall, function_copy}
 use Rattle.xc_kernel.specs.Statements.{statement_copy}
@@ -21,7 +21,6 @@ use Rattle.xc_wellformed.proofs.Formed.{transfers_right}
 use Rattle.xc_wellformed.proofs.Grammar.{AllOf, MaybeOf}
 use Rattle.xl_statements.specs.Built.{IsSent, IsBuilt, AreBuilt, BranchesAreBuilt}
 use Rattle.xl_image.specs.Roots.{RootsAreBuilt, StayOnCores}
-use Rattle.xc_today.specs.Today.{AreItemsUnstamped}
 use Rattle.xl_image.specs.TodayLaws.{KernelsAreBuilt}
 use Rattle.xl_image.proofs.TodayEarly.{IsEarlyAction, IsEarly, AreEarly, IsEarlyBranch, AreEarlyBranches, IsEarlyItem, program_early}
 use Rattle.xl_image.proofs.TodayCopied.{IsEarlyCode, AreEarlyCode, HaveEarlyCode, IsEarlyFunction, CallsEarly, as_statements, named_early, function_early, calls_early}
@@ -74,19 +73,20 @@ main_early copies calls f c true e fs h = absurd (true≢false e)
 main_early copies calls f c false e fs h =
     let copy = function_copy (statement_copy copies) c c.ports [] f [] in
     let made = function_early copies calls c c.ports [] f [] fs h in
-    record { roots = (as_statements copy.code made.code, tt); one = root_is_one _ }
+    record { roots = (as_statements copy.code made, tt); one = root_is_one _ }
 
 some_early : (copies : CopiesCall) → CallsEarly copies → (c : Context) (o : Option Function) → AllOf IsEarlyFunction c.functions → MaybeOf IsEarlyFunction o → IsEarlyRooted (roots_of copies o c)
 some_early copies calls c None fs h = record { roots = tt; one = no_root_is_one }
-some_early copies calls c (Some f) fs h = main_early copies calls f c (block_has_placed (in_block f.body)) (block_unplaced (in_block f.body) (in_block_early f.body h.early)) fs h
+some_early copies calls c (Some f) fs h =
+    main_early copies calls f c (block_has_placed (in_block f.body)) (block_unplaced (in_block f.body) (in_block_early f.body h)) fs h
 
 rooted_early : (P : List tree.Item) (num : Numbering) → AllOf IsEarlyFunction (functions P) → IsEarlyRooted (rooted P num)
 rooted_early P num fs = some_early (calls_of P) (calls_early (length (functions P))) (context_of P num) (main_of P) fs (named_early (functions P) name_of_main fs)
 
-functions_early : (P : List tree.Item) → AllOf IsEarlyItem P → AreItemsUnstamped P → AllOf IsEarlyFunction (functions P)
-functions_early [] h g = tt
-functions_early (tree.port p ∷ P) h g = functions_early P h.1 g.1
-functions_early (tree.function head s ∷ P) h g = (record { early = h.0; unstamped = g.0 }, functions_early P h.1 g.1)
+functions_early : (P : List tree.Item) → AllOf IsEarlyItem P → AllOf IsEarlyFunction (functions P)
+functions_early [] h = tt
+functions_early (tree.port p ∷ P) h = functions_early P h.1
+functions_early (tree.function head s ∷ P) h = (h.0, functions_early P h.1)
 
 -- The kernel.
 
@@ -141,8 +141,8 @@ stay_where_one K one c i j r s first second uses too =
 
 pub kernels_are_built : KernelsAreBuilt
 kernels_are_built toks P n types K derived deep today typed copies =
-    let early = program_early toks today.words unlimited 0 (length toks) P derived in
-    let fs = functions_early P early today.stamps in
+    let early = program_early toks today unlimited 0 (length toks) P derived in
+    let fs = functions_early P early in
     let roots : AllOf IsEarlyRoot K.roots = subst (λ (k : kernel.Kernel). AllOf IsEarlyRoot k.roots) (sym copies.is_copy) (copy_roots P fs) in
     record {
       roots = roots_built K K.roots roots (transfers_right P n types K typed deep copies);

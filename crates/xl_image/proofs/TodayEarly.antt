@@ -1,33 +1,22 @@
 -- Statements of no later form, and that tokens without its words derive no others.
-use Rattle.std.proofs.Common.{◌≡◌, ℕ, zero, suc, Bool, false, List, [], ◌∷◌, map, slice_get, Option, None, Some, refl, subst}
+use Rattle.std.proofs.Common.{◌≡◌, ℕ, zero, suc, List, [], ◌∷◌, slice_get, Option, None, Some, refl, subst}
 use Rattle.xc_tree.specs.declared.token.Tok.{Tok}
-use Rattle.xc_tree.specs.declared.tree.Id.{Id}
 use Rattle.xc_tree.specs.Plain as plain
 use Rattle.xc_tree.specs.Words as words
-use Rattle.xc_tree.specs.Symbol.{Symbol, sym, key, a_name, a_number, many, maybe, commas, program, item, body, block, block_item, decl, statement, closed, case_item, for_start, for_step, place as placed, branch, assign, Declarator, a_word, an_array, Value, Values}
-use Rattle.xc_tree.specs.Grammar.{Rule, Extent, rules, kept, declared, named as kind_named}
+use Rattle.xc_tree.specs.Symbol.{Symbol, sym, key, a_name, a_number, many, maybe, commas, program, item, body, block, block_item, decl, statement, closed, case_item, for_start, for_step, place as placed, branch, assign, Value, Values}
+use Rattle.xc_tree.specs.Grammar.{Rule, Extent, rules, kept}
 use Rattle.xc_tree.specs.Derives.{Room, extent, Derives, a_sym, a_key, named, counted, by_rule, Row, done, next}
 use Rattle.xl_image.proofs.TodayRules.{EachRule, none, ◌&◌, among_each}
 use Rattle.xc_wellformed.proofs.Grammar.{AllOf, MaybeOf}
-use Rattle.xc_today.specs.Today.{later_words, IsNoneOf, KindIsSupported, TokensAreSupported}
+use Rattle.xc_today.specs.Today.{later_words, IsNoneOf, KindIsSupported, IsSupported}
 
--- no timer is declared
-abbrev pub IsEarlyKind : plain.Kind → Type 0
-IsEarlyKind plain.timer = ⊥
-IsEarlyKind other = Unit {0}
-
-abbrev pub AreEarlyDeclarations : List plain.Declaration → Type 0
-AreEarlyDeclarations [] = Unit {0}
-AreEarlyDeclarations (d ∷ ds) = IsEarlyKind d.kind × AreEarlyDeclarations ds
-
--- no timer, no `select`, no transaction and no placed branch
+-- no `select`, no transaction and no placed branch
 abbrev mutual
   pub IsEarly : plain.Statement → Type 0
   IsEarly (plain.statement action pos close own) = IsEarlyAction action
 
   pub IsEarlyAction : plain.Action → Type 0
   IsEarlyAction (plain.block ss) = AreEarly ss
-  IsEarlyAction (plain.declare ds) = AreEarlyDeclarations ds
   IsEarlyAction (plain.if_then test first second) = IsEarly first × IsMaybeEarly second
   IsEarlyAction (plain.while_loop test s) = IsEarly s
   IsEarlyAction (plain.do_while s test) = IsEarly s
@@ -75,15 +64,6 @@ no_place : {V : Type 0} (o : Option V) → MaybeOf (λ v. ⊥) o → o ≡ None
 no_place None h = refl
 no_place (Some v) h = absurd h
 
-all_declared : (u : Bool) (ds : List Declarator) → AreEarlyDeclarations (map (declared u) ds)
-all_declared u [] = tt
-all_declared u (a_word n r ∷ ds) = (tt, all_declared u ds)
-all_declared u (an_array n l p ∷ ds) = (tt, all_declared u ds)
-
-all_channels : (ns : List Id) → AreEarlyDeclarations (map (kind_named (plain.channel false)) ns)
-all_channels [] = tt
-all_channels (n ∷ ns) = (tt, all_channels ns)
-
 all_kept : (is : List (Option plain.Item)) → AllOf (MaybeOf IsEarlyItem) is → AllOf IsEarlyItem (kept is)
 all_kept [] h = tt
 all_kept (None ∷ is) h = all_kept is h.1
@@ -125,7 +105,7 @@ nothing [] = none
 nothing (r ∷ rs) = (λ e x g. tt) & nothing rs
 
 -- one of them isn't none of them
-pub no_one : (places : List ℕ) (i place : ℕ) → slice_get places i ≡ Some place → IsNoneOf places place → ⊥
+no_one : (places : List ℕ) (i place : ℕ) → slice_get places i ≡ Some place → IsNoneOf places place → ⊥
 no_one [] i place e h = absurd (cc)
 no_one (x ∷ xs) zero place e h = let g : x ≡ place = cc in h.0 (cc)
 no_one (x ∷ xs) (suc i) place e h = no_one xs i place e h.1
@@ -143,7 +123,7 @@ all_keep item = (λ e x g. tt) & (λ e x g. g.1.0) & (λ e x g. tt) & none
 all_keep body = (λ e x g. all_early x.0 g.0) & none
 all_keep block = (λ e x g. g.1.0) & none
 all_keep block_item = (λ e x g. g.0) & (λ e x g. g.0) & none
-all_keep decl = (λ e x g. all_declared x.0 x.1.0) & (λ e x g. all_channels x.1.0) & (λ e x g. absurd (no_one later_words 5 words.timer_word refl g.0)) & none
+all_keep decl = (λ e x g. tt) & (λ e x g. tt) & (λ e x g. tt) & none
 all_keep statement =
     (λ e x g. tt) &
     (λ e x g. all_early x.0 g.0) &
@@ -161,25 +141,25 @@ all_keep statement =
     (λ e x g. tt) &
     (λ e x g. all_branches x.1.1.0 g.1.1.0) &
     (λ e x g. g.1.1.1.1.1.1.1.1.1.1.1.1.1.1.0) &
-    (λ e x g. absurd (no_one later_words 3 words.select_word refl g.0)) &
-    (λ e x g. absurd (no_one later_words 1 words.master_word refl g.0)) &
-    (λ e x g. absurd (no_one later_words 4 words.slave_word refl g.0)) & none
+    (λ e x g. absurd (no_one later_words 2 words.select_word refl g.0)) &
+    (λ e x g. absurd (no_one later_words 0 words.master_word refl g.0)) &
+    (λ e x g. absurd (no_one later_words 3 words.slave_word refl g.0)) & none
 all_keep closed = (λ e x g. g.0) & none
 all_keep case_item = (λ e x g. g.0) & (λ e x g. g.0) & none
-all_keep for_start = (λ e x g. g.0) & (λ e x g. (tt, tt)) & none
+all_keep for_start = (λ e x g. g.0) & (λ e x g. tt) & none
 all_keep for_step = (λ e x g. g.0) & none
-all_keep placed = (λ e x g. no_one later_words 2 words.on_word refl g.0) & (λ e x g. no_one later_words 2 words.on_word refl g.0) & none
+all_keep placed = (λ e x g. no_one later_words 1 words.on_word refl g.0) & (λ e x g. no_one later_words 1 words.on_word refl g.0) & none
 all_keep branch = (λ e x g. (no_place x.0 g.0, g.1.0)) & none
 all_keep assign = (λ e x g. tt) & (λ e x g. tt) & (λ e x g. tt) & (λ e x g. tt) & none
 all_keep s = nothing (rules s)
 
 -- a token of these
-pub of_today : (toks : List Tok) (i : ℕ) (t : Tok) → TokensAreSupported toks → slice_get toks i ≡ Some t → KindIsSupported t.kind
+of_today : (toks : List Tok) (i : ℕ) (t : Tok) → IsSupported toks → slice_get toks i ≡ Some t → KindIsSupported t.kind
 of_today [] i t h e = absurd (cc)
 of_today (x ∷ xs) zero t h e = let g : x ≡ t = cc in subst (λ (y : Tok). KindIsSupported y.kind) g h.0
 of_today (x ∷ xs) (suc i) t h e = of_today xs i t h.1 e
 
-module _ (toks : List Tok) (today : TokensAreSupported toks) where
+module _ (toks : List Tok) (today : IsSupported toks) where
   mutual
     good : {room : Room} {s : Symbol} {i j : ℕ} {v : Value s} → Derives toks room s i j v → Good s v
     good (a_sym on) = tt

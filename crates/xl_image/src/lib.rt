@@ -9,4 +9,4 @@ mod needs;
 mod roots;
 
 pub use cores::image;
-pub use law::{kernels_are_built, ports_go_out};
+pub use law::kernels_are_built;
