@@ -67,7 +67,7 @@ module _ (text : List ℕ) (toks : List Tok) (lexes : Lexes text toks) where
     abbrev tree : IsTree text items
     tree = record { toks = toks; lexes = lexes; derives = derives; unbroken = unbroken }
 
-    pub first_of_form : (IsSupported toks items → ⊥) → First text not_built
+    pub first_of_form : (IsSupported toks → ⊥) → First text not_built
     first_of_form not = record { phase = Form; breaks = of_form items tree not; least = least }
       where
         least : (later : Phase) (other : Broken) → Breaks text later other → IsEarlier Form later ⊎ ((Form ≡ later) × IsNotAfter not_built other)
@@ -85,13 +85,12 @@ module _ (text : List ℕ) (toks : List Tok) (lexes : Lexes text toks) where
     no_tokens : (others : List Tok) (rule i : ℕ) → Lexes text others → BreaksRule others rule i → ⊥
     no_tokens others rule i l breaks = unbroken rule i (subst (λ ts. BreaksRule ts rule i) (same others l) breaks)
 
-    module _ (only : (v : List Item) → IsProgram toks v → v ≡ items) (form : IsSupported toks items) where
+    module _ (only : (v : List Item) → IsProgram toks v → v ≡ items) (form : IsSupported toks) where
       one_tree : (others : List Item) → IsTree text others → others ≡ items
       one_tree others t = only others (subst (λ ts. IsProgram ts others) (same t.toks t.lexes) t.derives)
 
-      no_other_form : (others : List Item) (t : IsTree text others) → (IsSupported t.toks others → ⊥) → ⊥
-      no_other_form others t not =
-          not (subst (λ ts. IsSupported ts others) (sym (same t.toks t.lexes)) (subst (IsSupported toks) (sym (one_tree others t)) form))
+      no_other_form : (others : List Item) (t : IsTree text others) → (IsSupported t.toks → ⊥) → ⊥
+      no_other_form others t not = not (subst IsSupported (sym (same t.toks t.lexes)) form)
 
       pub first_in_names : (b : Broken) → IsFirst (BreaksInNames items) b → First text b
       first_in_names b f = record { phase = Names; breaks = of_names items b tree f.breaks; least = least }

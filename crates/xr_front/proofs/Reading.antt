@@ -34,7 +34,7 @@ use Rattle.xr_front.proofs.Firsts.{accepts, first_in_names, first_in_needs, firs
 
 pub read_as : (text : List ℕ) (toks : List Tok) (items : List Item) → Lexes text toks → Rise toks → IsProgram toks items →
     ((v : List Item) → IsProgram toks v → v ≡ items) → ((rule i : ℕ) → BreaksRule toks rule i → ⊥) →
-    depth.of_program items ≤ deepest → IsSupported toks items → IsReadAs text items
+    depth.of_program items ≤ deepest → IsSupported toks → IsReadAs text items
 read_as text toks items lexes rising derives only unbroken shallow form = record {
   toks = toks;
   lexes = lexes;

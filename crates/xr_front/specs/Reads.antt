@@ -19,4 +19,4 @@ pub record IsReadAs (text : List ℕ) (items : List Item) : Type 0 where
   pub only : (v : List Item) → IsProgram toks v → v ≡ items
   pub unbroken : (rule i : ℕ) → BreaksRule toks rule i → ⊥
   pub shallow : depth.of_program items ≤ deepest
-  pub form : IsSupported toks items
+  pub form : IsSupported toks

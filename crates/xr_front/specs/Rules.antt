@@ -81,13 +81,13 @@ rank Needs = 6
 abbrev pub IsEarlier : Phase → Phase → Type 0
 IsEarlier a b = rank a < rank b
 
--- A text breaks a rule of a phase: it has a tree that isn't built today; its bytes break a rule; it has tokens, and these break one; it
+-- A text breaks a rule of a phase: it has a tree and isn't built today; its bytes break a rule; it has tokens, and these break one; it
 -- has a tree, and this breaks one of names; its names are whole, and it breaks one of types and shapes; it breaks none of these, and is
 -- too large with all its copies; it is small enough, and its kernel breaks a rule of branches that keep apart or of what a core has.
 -- Rule 299 is the first phase, and needs a tree, so no text breaks it beside a rule on tokens or grammar. A text's kernel is the one
 -- copy of its program, so rules on size, branches and needs are told by the text alone.
 pub data Breaks (text : List ℕ) : Phase → Broken → Type 0 where
-  of_form : (items : List Item) (tree : IsTree text items) → (IsSupported tree.toks items → ⊥) → Breaks text Form not_built
+  of_form : (items : List Item) (tree : IsTree text items) → (IsSupported tree.toks → ⊥) → Breaks text Form not_built
   of_bytes : (b : Broken) → BreaksInBytes text b → Breaks text Bytes b
   of_tokens : (toks : List Tok) (rule i : ℕ) → Lexes text toks → BreaksRule toks rule i → Breaks text Tokens (record { rule = rule; pos = place_at toks (end_of text) i })
   of_names : (items : List Item) (b : Broken) → IsTree text items → BreaksInNames items b → Breaks text Names b

@@ -27,7 +27,7 @@ use xc_tree::{Refusal, Tree, Typed};
 use xc_types::check;
 use xw_words::{Broken, Pos};
 
-/// The tree isn't of a form that is built today.
+/// The text isn't of the forms that are built today.
 const NOT_BUILT: Broken = Broken {
     rule: 299,
     pos: Pos { line: 1, col: 1 },
@@ -42,7 +42,7 @@ pub fn read_text(alloc: Global, text: &[u8]) -> Result<Checked, Refusal>
 {
     let toks = lex(alloc, text)?;
     let tree = parse(alloc, &toks, end_pos(text))?;
-    if !is_supported(toks.as_slice(), &tree) {
+    if !is_supported(toks.as_slice()) {
         drop(tree);
         return Err(Refusal::Broken(NOT_BUILT));
     }

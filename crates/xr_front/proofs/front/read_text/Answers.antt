@@ -34,13 +34,13 @@ pub returns-then-not-is_supported-clause-first : goal.returns-then-not-is_suppor
 returns-then-not-is_supported-clause-first c =
     first_of_form c.args.text.now c.in_ok-toks.toks c.in_ok-toks.ensures.tokens (program_of c.in_ok-tree.tree) c.in_ok-tree.ensures.tree c.in_ok-tree.ensures.unbroken
     (λ h.
-    let t = c.is_supported.ensures.1 (subst (λ ts. IsSupported ts (program_of c.in_ok-tree.tree)) (sym c.as_slice.ensures) h) in
+    let t = c.is_supported.ensures.1 (subst IsSupported (sym c.as_slice.ensures) h) in
     let f = c.if-not-is_supported.true in
     absurd (cc))
 
 pub check_tree-requires : goal.check_tree-requires
 check_tree-requires c =
-    let form = subst (λ ts. IsSupported ts (program_of c.in_ok-tree.tree)) c.as_slice.ensures (c.is_supported.ensures.0 c.if-not-is_supported.false) in
+    let form = subst IsSupported c.as_slice.ensures (c.is_supported.ensures.0 c.if-not-is_supported.false) in
     let read =
     read_as c.args.text.now c.in_ok-toks.toks (program_of c.in_ok-tree.tree) c.in_ok-toks.ensures.tokens c.in_ok-toks.ensures.rising
     c.in_ok-tree.ensures.tree c.in_ok-tree.ensures.only c.in_ok-tree.ensures.unbroken c.in_ok-tree.ensures.shallow form in
@@ -48,7 +48,7 @@ check_tree-requires c =
 
 pub returns-clause-accepted : goal.returns-clause-accepted
 returns-clause-accepted c =
-    let form = subst (λ ts. IsSupported ts (program_of c.in_ok-tree.tree)) c.as_slice.ensures (c.is_supported.ensures.0 c.if-not-is_supported.false) in
+    let form = subst IsSupported c.as_slice.ensures (c.is_supported.ensures.0 c.if-not-is_supported.false) in
     let read =
     read_as c.args.text.now c.in_ok-toks.toks (program_of c.in_ok-tree.tree) c.in_ok-toks.ensures.tokens c.in_ok-toks.ensures.rising
     c.in_ok-tree.ensures.tree c.in_ok-tree.ensures.only c.in_ok-tree.ensures.unbroken c.in_ok-tree.ensures.shallow form in
@@ -56,7 +56,7 @@ returns-clause-accepted c =
 
 pub returns-clause-first : goal.returns-clause-first
 returns-clause-first c =
-    let form = subst (λ ts. IsSupported ts (program_of c.in_ok-tree.tree)) c.as_slice.ensures (c.is_supported.ensures.0 c.if-not-is_supported.false) in
+    let form = subst IsSupported c.as_slice.ensures (c.is_supported.ensures.0 c.if-not-is_supported.false) in
     let read =
     read_as c.args.text.now c.in_ok-toks.toks (program_of c.in_ok-tree.tree) c.in_ok-toks.ensures.tokens c.in_ok-toks.ensures.rising
     c.in_ok-tree.ensures.tree c.in_ok-tree.ensures.only c.in_ok-tree.ensures.unbroken c.in_ok-tree.ensures.shallow form in
