@@ -2,12 +2,12 @@
 
 ghost use Rattle.std.specs.Bool.{OnTrue};
 ghost use Rattle.std.specs.Prelude.{map};
-ghost use Rattle.xc_kernel.specs.Kernels.{input_of, output_of, root_of, statement_of};
+ghost use Rattle.xc_kernel.specs.Kernels.{output_of, root_of, statement_of};
 ghost use Rattle.xc_kernel.specs.Plain as plain;
 ghost use Rattle.xl_image.specs.Roots.{RootsAreBuilt};
 ghost use Rattle.xl_statements.specs.Built.{AreBuilt, BranchesAreBuilt, IsBuilt, branches_of, statements_of};
 
-use xc_kernel::{KBranch, KHead, KOut, KRes, Kst, Root};
+use xc_kernel::{KBranch, KOut, KRes, Kst, Root};
 
 /// Whether the code of each root is built.
 pub fn are_roots_built(roots: &[Root]) -> bool
@@ -52,7 +52,7 @@ fn is_built(statement: &Kst) -> bool
         Kst::Block(_, inside) => are_built(inside.as_slice()),
         Kst::Exit(_) => true,
         Kst::Par(branches) => are_branches_built(branches.as_slice()),
-        Kst::In(input) => is_input_built(input),
+        Kst::In(_) => true,
         Kst::Select(_) => false,
         Kst::Tran { .. } => false,
     }
@@ -72,23 +72,12 @@ fn are_branches_built(branches: &[KBranch]) -> bool
     true
 }
 
-/// Whether an output goes to a port and has no stamp, or goes to a channel.
+/// Whether an output goes to a port or a channel.
 fn is_output_built(output: &KOut) -> bool
     ensures { OnTrue result (IsBuilt (plain.output (output_of output.now))) }
 {
     match output.res {
-        KRes::Port(_) => output.stamp.is_none(),
-        KRes::Timer(_) => false,
-        KRes::Chan(_) => true,
-    }
-}
-
-/// Whether an input comes from a channel.
-fn is_input_built(input: &KHead) -> bool
-    ensures { OnTrue result (IsBuilt (plain.input (input_of input.now))) }
-{
-    match input.res {
-        KRes::Port(_) => false,
+        KRes::Port(_) => true,
         KRes::Timer(_) => false,
         KRes::Chan(_) => true,
     }
