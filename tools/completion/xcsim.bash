@@ -10,8 +10,10 @@ _xcsim() {
     elif [ "$command" = run ] && [[ $word == -* ]]; then
         mapfile -t COMPREPLY < <(compgen -W "--ticks" -- "$word")
     elif [[ $command =~ ^(check|run|asm)$ ]]; then
+        local ending=xc
+        if [ "$command" = run ] && [[ $before == *.xc ]]; then ending=stim; fi
         compopt -o filenames 2>/dev/null
-        mapfile -t COMPREPLY < <(compgen -f -X '!*.xc' -- "$word" && compgen -d -- "$word")
+        mapfile -t COMPREPLY < <(compgen -f -X "!*.$ending" -- "$word" && compgen -d -- "$word")
         [ ${#COMPREPLY[@]} -gt 0 ] || mapfile -t COMPREPLY < <(compgen -d -- "$word")
     fi
 }

@@ -114,6 +114,22 @@ class Pages(unittest.TestCase):
         whole = drawn("--text", text=output_of_example("bus"), columns="80")
         self.assertIn("```\n" + whole.split("\n\n")[0] + "\n```", self.page("docs", "looking.md"))
 
+    def test_diagram_with_a_stimulus(self):
+        words = ["--text", "--stimulus", example("meter.stim"), "--to", "3000"]
+        whole = drawn(*words, text=output_of_example("meter"), columns="80")
+        self.assertIn("```\n" + whole.split("\n\n")[0] + "\n```", self.page("docs", "looking.md"))
+
+    def test_stimulus_and_what_it_makes(self):
+        page = self.page("docs", "using.md")
+        lines, records = re.search(r"```\n# a pulse.*?\n(.*?)```.*?```\n(in .*?)```", page, re.DOTALL).groups()
+        self.assertIn("\n" + lines, written(example("meter.stim")))
+        self.assertTrue(written(example("meter.trace")).startswith(records))
+
+    def test_what_the_gate_runs_of_the_language(self):
+        shown = re.search(r"## Inputs and timers.*?```\n(.*?)```.*?```\n(.*?)```.*?```\n(.*?)```", self.page("docs", "language.md"), re.DOTALL).groups()
+        marked = ["".join(f"{mark} {line}\n" for line in part.splitlines()) for mark, part in zip(("|", "stim", "="), shown)]
+        self.assertIn("case the example of docs/language.md\n" + "".join(marked), self.page("crates", "xt_programs", "data", "inputs.txt"))
+
     def test_pictures(self):
         self.assertEqual(drawn(text=output_of_example("bus")), self.page("docs", "bus.svg"))
         messages = called("trace-msc", "--lockstep", "--to", "4000", text=output_of_example("producer")).stdout

@@ -36,6 +36,11 @@ class Words(unittest.TestCase):
         source = Source(b"int main(void) {\n  int x\n  x = 1;\n  return 0;\n}\n")
         self.assertEqual("".join(f"{line}\n" for line in shown(finding_of("a.xc:3:3: rule 201"), source)), page)
 
+    def test_the_refused_stimulus_of_the_page(self):
+        page = re.search(r"```\n(a\.stim:2:1: .*?)```", written(os.path.join(PAGES, "using.md")), re.DOTALL)[1]
+        finding = shown(finding_of("a.stim:2: rule 802"), Source(b"7 0 1B 1\n6 0 1B 0\n"))
+        self.assertEqual("".join(f"{line}\n" for line in finding), page)
+
     def test_statuses_of_the_language(self):
         page = written(os.path.join(PAGES, "language.md"))
         for rule in (it for name, it in RULES.items() if name.startswith("line ")):

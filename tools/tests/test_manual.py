@@ -86,7 +86,7 @@ class Completion(unittest.TestCase):
         holder = tempfile.TemporaryDirectory()
         self.addCleanup(holder.cleanup)
         self.room = holder.name
-        for name in ("bus.xc", "bits.xc", "notes.txt"):
+        for name in ("bus.xc", "bits.xc", "bus.stim", "notes.txt"):
             with open(os.path.join(self.room, name), "w", encoding="utf-8"):
                 pass
         os.mkdir(os.path.join(self.room, "more"))
@@ -107,6 +107,8 @@ class Completion(unittest.TestCase):
             (["check", "m"], ["more"]),
             (["run", ""], ["bits.xc", "bus.xc", "more"]),
             (["run", "bus.xc", "-"], ["--ticks"]),
+            (["run", "bus.xc", "b"], ["bus.stim"]),
+            (["check", "bus.xc", "b"], ["bits.xc", "bus.xc"]),
             (["asm", "-"], []),
             (["run", "--ticks", ""], []),
             (["run", "--ticks", "5", "bu"], ["bus.xc"]),
@@ -131,6 +133,7 @@ class Completion(unittest.TestCase):
             ("xcsim --", ["--help", "--version", "the commit"], ["bus.xc"]),
             ("xcsim run b", ["bits.xc", "bus.xc"], ["notes.txt"]),
             ("xcsim run --", ["--ticks"], ["bus.xc"]),
+            ("xcsim run bus.xc b", ["bus.stim"], ["notes.txt"]),
         ]:
             told = self.in_zsh(words, expected)
             for it in expected:
