@@ -17,7 +17,7 @@ COMPARES = {"==", "!=", "<=", ">="}
 CHANGES = {"=", "++", "--", *(it for it in GROUPS["symbols"] if len(it) > 1 and it.endswith("=") and it not in COMPARES)}
 OPERATORS = {"+", "-", "*", "/", "%", "&", "|", "^", "<", ">", "?", "&&", "||", "<<", ">>", *COMPARES}
 DECLARES = {*GROUPS["types"]} - {"void"}
-UNBUILT = re.compile(r"^- one of the words `([a-z ]+)`", re.MULTILINE)
+UNBUILT = re.compile(r"\bone of the words `([a-z ]+)`")
 NOTHING = Token("", 0, 0)
 
 

@@ -119,9 +119,9 @@ class Hints(unittest.TestCase):
             self.assertEqual((hint[: len(expected)], bool(hint)), (expected, bool(expected)), text)
 
     def test_words_that_are_not_built(self):
-        page = written(os.path.join(PAGES, "language.md"))
-        if match := re.search(r"^- one of the words `(.*)`", page, re.MULTILINE):
-            self.assertEqual(unbuilt_words(), set(match[1].split()))
+        definition = written(os.path.join(TOP, "crates", "xc_today", "specs", "Today.antt"))
+        words = re.search(r"^later_words = (.*)", definition, re.MULTILINE)[1]
+        self.assertEqual(unbuilt_words(), set(re.findall(r"words\.(\w+)_word", words)))
         self.assertEqual(unbuilt_words("nowhere.md"), set())
 
 
