@@ -21,7 +21,8 @@ use xw_words::Memory;
 /// do in between that leaves what this one relies on, it comes, within 8 steps for each node of the time or condition and four more,
 /// to where its next step reads the port's pins to r0 as soon as they meet what it waits for, with the port's name as its place; or to
 /// where the next step traps with the error of the time or condition. The time is a value of the port's counter, of which 16 bits count;
-/// of the condition's word those count that the port has. Behind the transfer value and stamp are stored by `writes` and `stamps`.
+/// of the condition's word those count that the port has. Its condition asks for its pins, as the rules of types have it. Behind the
+/// transfer value and stamp are stored by `writes` and `stamps`.
 ///
 /// The one error is want of memory; the emitter then holds what it held, and perhaps further instructions behind it.
 pub fn emit_port_in(e: &mut Emitter, plan: &Plan, h: &KHead) -> Result<(), Memory>

@@ -20,7 +20,7 @@ use xw_words::Memory;
 /// threads do in between that leaves what this one relies on, it comes, within 8 steps for each node of the condition and four more, to
 /// where its next step reads the core's clock, in ticks and all its 32 bits, to r0 as soon as it is after the condition's time, with the
 /// timer's name as its place; or to where the next step traps with the condition's error. Behind the transfer the clock is stored by
-/// `writes`. A timer has no stamp.
+/// `writes`. A timer has no stamp and no time to be set, and its condition asks for the clock, as the rules of types have it.
 ///
 /// The one error is want of memory; the emitter then holds what it held, and perhaps further instructions behind it.
 pub fn emit_timer_in(e: &mut Emitter, plan: &Plan, h: &KHead) -> Result<(), Memory>
