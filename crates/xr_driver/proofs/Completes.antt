@@ -5,15 +5,16 @@ use Rattle.xw_io.specs.Outside.{WhereTold, IsFileOf, IsTooLong, found, max_file}
 use Rattle.xw_io.specs.declared.file.File.{File}
 use Rattle.xc_tree.specs.Plain.{Item}
 use Rattle.xw_words.specs.declared.pos.Broken.{Broken}
-use Rattle.xr_driver.specs.Answers.{Answers, Decided, no_command, missing, too_long, read_fault, refused, checked, assembled, ran, no_memory, Delivered, whole, out_fell, err_fell, Outcome, status_of_run}
+use Rattle.xr_driver.specs.Answers.{Answers, Decided, no_command, missing, too_long, read_fault, refused, bad_stim, checked, assembled, ran, no_memory, Delivered, whole, out_fell, err_fell, Outcome, status_of_run}
 use Rattle.xr_driver.specs.Causes.{AllCauses, Completes, DoneWith, NoFault}
 use Rattle.xs_instr.specs.declared.image.Stim.{Stim}
 use Rattle.xr_driver.specs.Command.{Command, Run, Asm, Check, file_of, means, stim_of}
-use Rattle.xr_driver.specs.Due.{IsDue}
+use Rattle.xr_driver.specs.Due.{IsDue, IsStimDue, of_text, of_stim}
 use Rattle.xr_driver.specs.Outside.{Loads, Span, Gained}
-use Rattle.xr_front.specs.Rules.{First, IsAccepted}
-use Rattle.xr_driver.specs.Runs.{IsStimOf}
-use Rattle.xr_driver.proofs.Dues.{due_is, one_stim}
+use Rattle.xr_front.specs.Rules.{First, IsAccepted, IsRefusedOrAccepted}
+use Rattle.xr_driver.specs.Runs.{IsStimOf, no_stim, unnamed}
+use Rattle.xr_stim.specs.Stimulus.{IsFirstBroken, Means}
+use Rattle.xr_driver.proofs.Stims.{not_both, one_stim, one_text, text_of_stim}
 
 none_some : {A : Type 0} (o : Option A) (x : A) → o ≡ None → o ≡ Some x → ⊥
 none_some o x p q = absurd (cc)
@@ -21,53 +22,149 @@ none_some o x p q = absurd (cc)
 same_some : {A : Type 0} (o : Option A) (x y : A) → o ≡ Some x → o ≡ Some y → x ≡ y
 same_some o x y p q = cc
 
-not_both : (n : ℕ) → max_file < n → n ≤ max_file → ⊥
-not_both n h k = absurd (omega (arith, h, k))
+-- a text that is accepted breaks no rule
+not_refused : (text other : List ℕ) (b : Broken) (P : List Item) → text ≡ other → IsAccepted text P → First other b → ⊥
+not_refused text other b P e is first = (subst (λ t. IsAccepted t P) e is).unbroken first.phase b first.breaks
 
-told_at : {A : Type 0} (P : A → Type 0) (o : Option A) (x : A) → o ≡ Some x → WhereTold o P → P x
-told_at P o x e h = subst (λ v. WhereTold v P) e h
+-- no file has the name, or it has more bytes than a file may have
+abbrev IsBad : List File → List ℕ → Type 0
+IsBad files name = (found files name ≡ None) ⊎ ((text : List ℕ) × (found files name ≡ Some text) × (max_file < length text))
+
+-- The same as `AllCauses` of the command that is meant.
+record CausesOf (files : List File) (out : Span) (c : Command) (status : ℕ) : Type 0 where
+  missing : (name : List ℕ) → IsDue (Some files) c name → found files name ≡ None → status ≡ 6
+  too_long : (name text : List ℕ) → IsDue (Some files) c name → found files name ≡ Some text → max_file < length text → status ≡ 7
+  answered : (text : List ℕ) → IsFileOf (Some files) (file_of c) text → IsRefusedOrAccepted text
+  refused : (text : List ℕ) (b : Broken) → IsFileOf (Some files) (file_of c) text → First text b → status ≡ 1
+  stim_refused : (name text : List ℕ) (line rule : ℕ) → IsStimDue (Some files) c name → IsFileOf (Some files) name text →
+      IsFirstBroken text line rule → status ≡ 10
+  done : (text : List ℕ) (P : List Item) (s : Stim) → IsFileOf (Some files) (file_of c) text → IsAccepted text P →
+      IsStimOf (Some files) (stim_of c) s → DoneWith c text s out status
+
+module _ (files : List File) where
+  -- a file that is there, and is no longer than a file may be, isn't bad
+  not_bad : (name text : List ℕ) → IsFileOf (Some files) name text → IsBad files name → ⊥
+  not_bad name text h (inl gone) = none_some (found files name) text gone h.told
+  not_bad name text h (inr (other, there, long)) =
+      let same = same_some (found files name) other text there h.told in
+      let short = subst (λ t. length t ≤ max_file) (sym same) h.short in
+      absurd (omega (arith, long, short))
+
+  module _ (c : Command) where
+    -- of two files that are due and bad, both are the same
+    one_bad : (a b : List ℕ) → IsDue (Some files) c a → IsDue (Some files) c b → IsBad files a → IsBad files b → a ≡ b
+    one_bad a b (of_text d) (of_text e) bad_a bad_b = refl
+    one_bad a b (of_text d) (of_stim e n due) bad_a bad_b = absurd (not_bad (file_of c) due.text due.told bad_a)
+    one_bad a b (of_stim d m due) (of_text e) bad_a bad_b = absurd (not_bad (file_of c) due.text due.told bad_b)
+    one_bad a b (of_stim d m due) (of_stim e n also) bad_a bad_b = same_some (stim_of c) a b due.names also.names
+
+    -- no file that is due is bad where the text is there, and the stimulus too if one is named
+    none_bad : (text : List ℕ) → IsFileOf (Some files) (file_of c) text →
+        ((name : List ℕ) → stim_of c ≡ Some name → (lines : List ℕ) × IsFileOf (Some files) name lines) →
+        (name : List ℕ) → IsDue (Some files) c name → IsBad files name → ⊥
+    none_bad text told there name (of_text d) bad = not_bad (file_of c) text told bad
+    none_bad text told there name (of_stim d n due) bad = let is = there name due.names in not_bad name is.0 is.1 bad
+
+    -- nor where the text is refused
+    none_bad_refused : (text : List ℕ) (b : Broken) → IsFileOf (Some files) (file_of c) text → First text b →
+        (name : List ℕ) → IsDue (Some files) c name → IsBad files name → ⊥
+    none_bad_refused text b told first name (of_text d) bad = not_bad (file_of c) text told bad
+    none_bad_refused text b told first name (of_stim d n due) bad =
+        not_refused due.text text b due.program (one_text files (file_of c) due.text text due.told told) due.accepted first
+
+    -- a text that is there is accepted where a file that is due is bad
+    accepted_before_bad : (name : List ℕ) → IsDue (Some files) c name → IsBad files name → (text : List ℕ) →
+        IsFileOf (Some files) (file_of c) text → (P : List Item) × IsAccepted text P
+    accepted_before_bad name (of_text d) bad text told = absurd (not_bad (file_of c) text told bad)
+    accepted_before_bad name (of_stim d n due) bad text told =
+        (due.program, subst (λ t. IsAccepted t due.program) (one_text files (file_of c) due.text text due.told told) due.accepted)
+
+    -- the file that is named for the stimulus
+    named_alike : (a b text : List ℕ) → stim_of c ≡ Some a → stim_of c ≡ Some b → IsFileOf (Some files) a text → IsFileOf (Some files) b text
+    named_alike a b text e f told = subst (λ k. IsFileOf (Some files) k text) (same_some (stim_of c) a b e f) told
+
+    -- the stimulus of a command is there, where it has one
+    stim_there : (s : Stim) → IsStimOf (Some files) (stim_of c) s → (name : List ℕ) → stim_of c ≡ Some name →
+        (lines : List ℕ) × IsFileOf (Some files) name lines
+    stim_there s of name names = let is = text_of_stim files (stim_of c) name s names of in (is.0, is.1)
+
+  module _ (out : Span) (c : Command) where
+    -- a file that is due is bad
+    with_bad_file : (name : List ℕ) → IsDue (Some files) c name → IsBad files name → (status : ℕ) → (found files name ≡ None → status ≡ 6) →
+        ((text : List ℕ) → found files name ≡ Some text → max_file < length text → status ≡ 7) → CausesOf files out c status
+    with_bad_file name due bad status gone long = record {
+      missing = λ other also f. gone (subst (λ n. found files n ≡ None) (one_bad c other name also due (inl f) bad) f);
+      too_long = λ other text also f more.
+          long text (subst (λ n. found files n ≡ Some text) (one_bad c other name also due (inr (text, f, more)) bad) f) more;
+      answered = λ text told. inr (accepted_before_bad c name due bad text told);
+      refused = λ text b told first. absurd (none_bad_refused c text b told first name due bad);
+      stim_refused = λ stim text line rule of told first.
+          absurd (none_bad c of.text of.told (λ n e. (text, named_alike c stim n text of.names e told)) name due bad);
+      done = λ text P s told is of. absurd (none_bad c text told (stim_there c s of) name due bad);
+    }
+
+    -- the text is refused
+    with_refused : (text : List ℕ) (b : Broken) → IsFileOf (Some files) (file_of c) text → First text b → CausesOf files out c 1
+    with_refused text b told first = record {
+      missing = λ name due f. absurd (none_bad_refused c text b told first name due (inl f));
+      too_long = λ name other due f long. absurd (none_bad_refused c text b told first name due (inr (other, f, long)));
+      answered = λ other also. inl (b, subst (λ t. First t b) (one_text files (file_of c) text other told also) first);
+      refused = λ other k also f. refl;
+      stim_refused = λ name lines line rule due also f.
+          absurd (not_refused due.text text b due.program (one_text files (file_of c) due.text text due.told told) due.accepted first);
+      done = λ other P s also is of. absurd (not_refused other text b P (one_text files (file_of c) other text also told) is first);
+    }
+
+    -- a line of the stimulus breaks a rule
+    with_bad_line : (name text : List ℕ) (line rule : ℕ) → IsStimDue (Some files) c name → IsFileOf (Some files) name text →
+        IsFirstBroken text line rule → CausesOf files out c 10
+    with_bad_line name text line rule due told first =
+        let there : (n : List ℕ) → stim_of c ≡ Some n → (lines : List ℕ) × IsFileOf (Some files) n lines =
+        λ n e. (text, named_alike c name n text due.names e told) in
+        record {
+          missing = λ other also f. absurd (none_bad c due.text due.told there other also (inl f));
+          too_long = λ other lines also f long. absurd (none_bad c due.text due.told there other also (inr (lines, f, long)));
+          answered = λ other also.
+              let same = one_text files (file_of c) due.text other due.told also in
+              inr (due.program, subst (λ t. IsAccepted t due.program) same due.accepted);
+          refused = λ other b also f.
+              absurd (not_refused due.text other b due.program (one_text files (file_of c) due.text other due.told also) due.accepted f);
+          stim_refused = λ other lines n r also told f. refl;
+          done = λ other P s also is of.
+              let stim = text_of_stim files (stim_of c) name s due.names of in
+              absurd (not_both text s line rule (subst (λ t. Means t s) (one_text files name stim.0 text stim.1 told) stim.2) first);
+        }
+
+    -- all was done
+    with_done : (text : List ℕ) (P : List Item) (s : Stim) (status : ℕ) → IsFileOf (Some files) (file_of c) text → IsAccepted text P →
+        IsStimOf (Some files) (stim_of c) s → DoneWith c text s out status → CausesOf files out c status
+    with_done text P s status told is of so = record {
+      missing = λ name due f. absurd (none_bad c text told (stim_there c s of) name due (inl f));
+      too_long = λ name other due f long. absurd (none_bad c text told (stim_there c s of) name due (inr (other, f, long)));
+      answered = λ other also. inr (P, subst (λ t. IsAccepted t P) (one_text files (file_of c) text other told also) is);
+      refused = λ other b also f. absurd (not_refused text other b P (one_text files (file_of c) text other told also) is f);
+      stim_refused = λ name lines line rule due also f.
+          let stim = text_of_stim files (stim_of c) name s due.names of in
+          absurd (not_both lines s line rule (subst (λ t. Means t s) (one_text files name stim.0 lines stim.1 also) stim.2) f);
+      done = λ other Q t also isQ by.
+          subst (λ x. DoneWith c x t out status) (one_text files (file_of c) text other told also)
+          (subst (λ x. DoneWith c text x out status) (one_stim files (stim_of c) s t of by) so);
+    }
 
 module _ (words : List (List ℕ)) (shelf : Loads) (out err : Span) (files : List File) (told : shelf.files ≡ Some files) (kept : NoFault shelf out err) where
-  -- the file that is loaded, by the command that is meant
-  loaded : (c d : Command) (text : List ℕ) → means words ≡ Some c → means words ≡ Some d → IsFileOf shelf.files (file_of c) text → found files (file_of d) ≡ Some text
-  loaded c d text m n h =
-      subst (λ k. found files (file_of k) ≡ Some text) (same_some (means words) c d m n)
-      (told_at (λ fs. found fs (file_of c) ≡ Some text) shelf.files files told h.told)
-
-  -- absent other text is that file's
-  same_text : (c d : Command) (text other : List ℕ) → means words ≡ Some c → means words ≡ Some d → IsFileOf shelf.files (file_of c) text → found files (file_of d) ≡ Some other → text ≡ other
-  same_text c d text other m n h f = same_some (found files (file_of d)) text other (loaded c d text m n h) f
-
-  no_file : (c d : Command) (text name : List ℕ) → means words ≡ Some c → means words ≡ Some d → IsFileOf shelf.files (file_of c) text → IsDue (Some files) d name → found files name ≡ None → ⊥
-  no_file c d text name m n h due f =
-      none_some (found files (file_of d)) text (subst (λ x. found files x ≡ None) (due_is words (Some files) d name n due) f) (loaded c d text m n h)
-
-  no_long : (c d : Command) (text name other : List ℕ) → means words ≡ Some c → means words ≡ Some d → IsFileOf shelf.files (file_of c) text → IsDue (Some files) d name → found files name ≡ Some other → max_file < length other → ⊥
-  no_long c d text name other m n h due f long =
-      let at_d = subst (λ x. found files x ≡ Some other) (due_is words (Some files) d name n due) f in
-      not_both (length other) long (subst (λ t. length t ≤ max_file) (same_text c d text other m n h at_d) h.short)
-
-  -- a text that is accepted breaks no rule
-  no_other : (c d : Command) (text other : List ℕ) (b : Broken) → means words ≡ Some c → means words ≡ Some d → IsFileOf shelf.files (file_of c) text → found files (file_of d) ≡ Some other → (P : List Item) → IsAccepted text P → First other b → ⊥
-  no_other c d text other b m n h f P is first = (subst (λ t. IsAccepted t P) (same_text c d text other m n h f) is).unbroken first.phase b first.breaks
-
-  done_at : (c d : Command) (text other : List ℕ) (s : Stim) (status : ℕ) → means words ≡ Some c → means words ≡ Some d → IsFileOf shelf.files (file_of c) text → found files (file_of d) ≡ Some other → IsStimOf (Some files) (stim_of d) s → ((t : Stim) → IsStimOf (Some files) (stim_of c) t → DoneWith c text t out status) → DoneWith d other s out status
-  done_at c d text other s status m n h f of done =
-      let same = same_some (means words) c d m n in
-      let of_c = subst (λ k. IsStimOf (Some files) (stim_of k) s) (sym same) of in
-      subst (λ k. DoneWith k other s out status) same
-      (subst (λ t. DoneWith c t s out status) (same_text c d text other m n h f) (done s of_c))
-
-  -- what was done of a text
-  all_done : (c : Command) (text : List ℕ) (status : ℕ) (P : List Item) → means words ≡ Some c → IsFileOf shelf.files (file_of c) text → IsAccepted text P → ((s : Stim) → IsStimOf (Some files) (stim_of c) s → DoneWith c text s out status) → AllCauses words files out status
-  all_done c text status P m h is done = record {
+  all_causes : (c : Command) → means words ≡ Some c → (status : ℕ) → CausesOf files out c status → AllCauses words files out status
+  all_causes c m status k = record {
     usage = λ none. absurd (none_some (means words) c none m);
-    missing = λ d name n due f. absurd (no_file c d text name m n h due f);
-    too_long = λ d name other n due f long. absurd (no_long c d text name other m n h due f long);
-    answered = λ d other n f short. inr (P, subst (λ t. IsAccepted t P) (same_text c d text other m n h f) is);
-    refused = λ d other b n f short first. absurd (no_other c d text other b m n h f P is first);
-    done = λ d other Q s n f short isQ of. done_at c d text other s status m n h f of done;
+    missing = λ d name n. (also d n).missing name;
+    too_long = λ d name text n. (also d n).too_long name text;
+    answered = λ d text n f short. (also d n).answered text (record { short = short; told = f });
+    refused = λ d text b n f short. (also d n).refused text b (record { short = short; told = f });
+    stim_refused = λ name line rule bad. (also bad.c bad.meant).stim_refused name bad.text line rule bad.due bad.told bad.first;
+    done = λ d text P s n f short. (also d n).done text P s (record { short = short; told = f });
   }
+    where
+      also : (d : Command) → means words ≡ Some d → CausesOf files out d status
+      also d n = subst (λ x. CausesOf files out x status) (same_some (means words) c d m n) k
 
   by_decided : (o : Outcome) → Decided words shelf o → Gained out o.output → ((o.status ≡ 12) × Gained out []) ⊎ AllCauses words files out o.status
   by_decided o (no_command none) g = inr (record {
@@ -76,50 +173,40 @@ module _ (words : List (List ℕ)) (shelf : Loads) (out err : Span) (files : Lis
     too_long = λ d name other n due f long. absurd (none_some (means words) d none n);
     answered = λ d other n f short. absurd (none_some (means words) d none n);
     refused = λ d other b n f short first. absurd (none_some (means words) d none n);
+    stim_refused = λ name line rule bad. absurd (none_some (means words) bad.c none bad.meant);
     done = λ d other Q s n f short is of. absurd (none_some (means words) d none n);
   })
   by_decided o (missing c name m due rose gone) g =
-      let at_name = told_at (λ fs. found fs name ≡ None) shelf.files files told gone in
-      let at_files = subst (λ x. found files x ≡ None) (due_is words shelf.files c name m due) at_name in
-      let absent : (d : Command) (other : List ℕ) → means words ≡ Some d → found files (file_of d) ≡ Some other → ⊥ = λ d other n f. none_some (found files (file_of d)) other (subst (λ k. found files (file_of k) ≡ None) (same_some (means words) c d m n) at_files) f in
-      inr (record {
-        usage = λ none. absurd (none_some (means words) c none m);
-        missing = λ d name n due f. refl;
-        too_long = λ d name other n due f long. absurd (absent d other n (subst (λ x. found files x ≡ Some other) (due_is words (Some files) d name n due) f));
-        answered = λ d other n f short. absurd (absent d other n f);
-        refused = λ d other b n f short first. absurd (absent d other n f);
-        done = λ d other Q s n f short is of. absurd (absent d other n f);
-      })
+      let none = subst (λ fs. WhereTold fs (λ all. found all name ≡ None)) told gone in
+      let is_due = subst (λ fs. IsDue fs c name) told due in
+      inr (all_causes c m 6
+      (with_bad_file files out c name is_due (inl none) 6 (λ f. refl) (λ text f long. absurd (none_some (found files name) text none f))))
   by_decided o (too_long c name m due rose long) g =
-      let named = subst (IsTooLong shelf.files) (due_is words shelf.files c name m due) long in
-      let there = told_at (λ fs. (text : List ℕ) × (found fs (file_of c) ≡ Some text) × (max_file < length text)) shelf.files files told named in
-      let at_d : (d : Command) → means words ≡ Some d → found files (file_of d) ≡ Some there.0 = λ d n. subst (λ k. found files (file_of k) ≡ Some there.0) (same_some (means words) c d m n) there.1 in
-      let absent : (d : Command) (other : List ℕ) → means words ≡ Some d → found files (file_of d) ≡ Some other → length other ≤ max_file → ⊥ = λ d other n f short. not_both (length other) (subst (λ t. max_file < length t) (same_some (found files (file_of d)) there.0 other (at_d d n) f) there.2) short in
-      inr (record {
-        usage = λ none. absurd (none_some (means words) c none m);
-        missing = λ d k n of f. absurd (none_some (found files (file_of d)) there.0 (subst (λ x. found files x ≡ None) (due_is words (Some files) d k n of) f) (at_d d n));
-        too_long = λ d k other n of f is. refl;
-        answered = λ d other n f short. absurd (absent d other n f short);
-        refused = λ d other b n f short first. absurd (absent d other n f short);
-        done = λ d other Q s n f short is of. absurd (absent d other n f short);
-      })
+      let there = subst (λ fs. IsTooLong fs name) told long in
+      let is_due = subst (λ fs. IsDue fs c name) told due in
+      inr (all_causes c m 7
+      (with_bad_file files out c name is_due (inr there) 7 (λ f. absurd (none_some (found files name) there.0 f there.1)) (λ text f more. refl)))
   by_decided o (read_fault c name m due rose) g = absurd (kept.shelf_kept rose)
-  by_decided o (refused c text b m h first) g = inr (record {
-    usage = λ none. absurd (none_some (means words) c none m);
-    missing = λ d name n due f. absurd (no_file c d text name m n h due f);
-    too_long = λ d name t n due f long. absurd (no_long c d text name t m n h due f long);
-    answered = λ d t n f short. inl (b, subst (λ x. First x b) (same_text c d text t m n h f) first);
-    refused = λ d t k n f short others. refl;
-    done = λ d t Q s n f short is of. absurd ((subst (λ x. IsAccepted x Q) (sym (same_text c d text t m n h f)) is).unbroken first.phase b first.breaks);
-  })
+  by_decided o (refused c text b m h first) g =
+      inr (all_causes c m 1 (with_refused files out c text b (subst (λ fs. IsFileOf fs (file_of c) text) told h) first))
+  by_decided o (bad_stim name line rule bad) g =
+      let due = subst (λ fs. IsStimDue fs bad.c name) told bad.due in
+      let is = subst (λ fs. IsFileOf fs name bad.text) told bad.told in
+      inr (all_causes bad.c bad.meant 10 (with_bad_line files out bad.c name bad.text line rule due is bad.first))
   by_decided o (checked file text P m h accepted) g =
-      inr (all_done (Check file) text 0 P m h accepted (λ s of. record { status_is = refl; output = g }))
+      let is = subst (λ fs. IsFileOf fs file text) told h in
+      inr (all_causes (Check file) m 0
+      (with_done files out (Check file) text P no_stim 0 is accepted unnamed (record { status_is = refl; output = g })))
   by_decided o (assembled file text L m h compiled) g =
-      inr (all_done (Asm file) text 0 compiled.program m h compiled.means_so (λ s of. record { L = L; compiled = compiled; status_is = refl; output = g }))
-  by_decided o (ran file ticks stim text s L lines word trapped m h compiled named lockstep of_program) g =
-      inr (all_done (Run file ticks stim) text (status_of_run trapped word) compiled.program m h compiled.means_so
-      (λ t of. subst (λ x. DoneWith (Run file ticks stim) text x out (status_of_run trapped word)) (one_stim shelf.files (Some files) stim s t named of)
-      (record {
+      let is = subst (λ fs. IsFileOf fs file text) told h in
+      inr (all_causes (Asm file) m 0
+      (with_done files out (Asm file) text compiled.program no_stim 0 is compiled.means_so unnamed
+      (record { L = L; compiled = compiled; status_is = refl; output = g })))
+  by_decided o (ran file ticks stim text s L lines word trapped m h compiled stimulus lockstep of_program) g =
+      let is = subst (λ fs. IsFileOf fs file text) told h in
+      let of = subst (λ fs. IsStimOf fs stim s) told stimulus in
+      inr (all_causes (Run file ticks stim) m (status_of_run trapped word)
+      (with_done files out (Run file ticks stim) text compiled.program s (status_of_run trapped word) is compiled.means_so of (record {
         L = L;
         lines = lines;
         word = word;

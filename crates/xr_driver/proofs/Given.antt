@@ -8,10 +8,10 @@ use Rattle.xw_io.specs.Outside.{gained, Rose}
 use Rattle.xw_io.proofs.Sinks.{drew-then, drawn, append_nothing, gained-nothing}
 use Rattle.xr_driver.specs.Outside.{Gave, Span, span, Gained, GainedFront}
 use Rattle.xr_driver.specs.Decision.{line_text}
-use Rattle.xr_driver.specs.Lines.{no_file_line, too_long_line, read_fault_line, broken_line}
+use Rattle.xr_driver.specs.Lines.{no_file_line, too_long_line, read_fault_line, broken_line, bad_line}
 use Rattle.xs_instr.specs.Texts.{pos_text}
 use Rattle.xr_driver.specs.declared.decide.Line.{Line}
-use Rattle.xr_driver.specs.declared.decide.Line.TheVariants.{Nothing, Usage, NoFile, TooLong, ReadFault, Broken, NoMemory}
+use Rattle.xr_driver.specs.declared.decide.Line.TheVariants.{Nothing, Usage, NoFile, TooLong, ReadFault, Broken, BadLine, NoMemory}
 
 infixl 5 ◌▹◌
 -- a piece and then a flush
@@ -41,13 +41,14 @@ ends_some [] x e = absurd (cc)
 ends_some (y ∷ ys) x e = absurd (cc)
 
 pub line_some : (l : Line) → (l ≡ Nothing → ⊥) → line_text l ≡ [] → ⊥
-unfolding no_file_line too_long_line read_fault_line broken_line
+unfolding no_file_line too_long_line read_fault_line broken_line bad_line
 line_some Nothing h e = h refl
 line_some Usage h e = absurd (cc)
 line_some (NoFile name) h e = ends_some (codes "no file " ++ name.now) 10 e
 line_some (TooLong name) h e = ends_some (codes "too long " ++ name.now) 10 e
 line_some (ReadFault name) h e = ends_some (codes "read fault " ++ name.now) 10 e
 line_some (Broken name b) h e = ends_some (name.now ++ codes ":" ++ pos_text b.pos ++ codes ": rule " ++ decimal b.rule) 10 e
+line_some (BadLine name line rule) h e = ends_some (name.now ++ codes ":" ++ decimal line ++ codes ": rule " ++ decimal rule) 10 e
 line_some NoMemory h e = absurd (cc)
 
 -- by the result's test

@@ -1,9 +1,10 @@
 mod Carried
 mod Completes
 mod Decides
-mod Dues
 mod Given
-mod NoMeaning
 mod OnlyCauses
 mod ProgramRuns
 mod Rounds
+mod RunWords
+mod Since
+mod Stims

@@ -7,7 +7,7 @@ use Rattle.xs_instr.specs.declared.trace.Record.{Record}
 use Rattle.xc_tree.specs.Plain.{Item}
 use Rattle.xs_instr.specs.declared.trace.EndWord.{EndWord}
 use Rattle.xs_instr.specs.declared.trace.EndWord.TheVariants.{Finished, Trapped, Stuck, Stopped}
-use Rattle.xr_driver.specs.Answers.{Answers, Decided, no_command, missing, too_long, read_fault, refused, checked, assembled, ran, no_memory, Delivered, whole, out_fell, err_fell, Outcome, status_of_run}
+use Rattle.xr_driver.specs.Answers.{Answers, Decided, no_command, missing, too_long, read_fault, refused, bad_stim, checked, assembled, ran, no_memory, Delivered, whole, out_fell, err_fell, Outcome, status_of_run}
 use Rattle.xr_driver.specs.Causes.{OnlyCauses, OutputCauses, WasRun}
 use Rattle.xr_driver.specs.Command.{Command, Run, Asm, Check, file_of, means}
 use Rattle.xr_front.specs.Rules.{IsAccepted}
@@ -73,7 +73,7 @@ module _ (words : List (List ℕ)) (shelf : Loads) (out err : Span) where
   ran_so : (file : List ℕ) (ticks : ℕ) (stim : Option (List ℕ)) (text : List ℕ) (s : Stim) (L : Image) (lines : List Record)
       (word : EndWord) (trapped : Bool) → means words ≡ Some (Run file ticks stim) → IsFileOf shelf.files file text → IsCompiled text L →
       IsStimOf shelf.files stim s → IsRunFor L s ticks lines word trapped → OutputCauses words shelf (status_of_run trapped word)
-  ran_so file ticks stim text s L lines word trapped m told compiled named lockstep = by_end trapped word lockstep
+  ran_so file ticks stim text s L lines word trapped m told compiled stimulus lockstep = by_end trapped word lockstep
     where
       so : (IsSo : EndWord → Bool → Type 0) (trapped : Bool) (word : EndWord) → IsRunFor L s ticks lines word trapped → IsSo word trapped →
           WasRun words shelf IsSo
@@ -87,7 +87,7 @@ module _ (words : List (List ℕ)) (shelf : Loads) (out err : Span) where
         L = L;
         compiled = compiled;
         s = s;
-        stimulus = named;
+        stimulus = stimulus;
         lines = lines;
         word = word;
         trapped = trapped;
@@ -140,6 +140,7 @@ module _ (words : List (List ℕ)) (shelf : Loads) (out err : Span) where
     missing = λ e. absurd (not_late s 6 h (omega arith) e);
     too_long = λ e. absurd (not_late s 7 h (omega arith) e);
     read_fault = λ e. absurd (not_late s 8 h (omega arith) e);
+    stim_refused = λ e. absurd (not_late s 10 h (omega arith) e);
     write_fault = λ e. absurd (not_late s 9 h (omega arith) e);
     no_memory = λ e. absurd (not_late s 12 h (omega arith) e);
     output = output;
@@ -153,6 +154,7 @@ module _ (words : List (List ℕ)) (shelf : Loads) (out err : Span) where
     missing = λ e. absurd (omega (arith, e));
     too_long = λ e. absurd (omega (arith, e));
     read_fault = λ e. absurd (omega (arith, e));
+    stim_refused = λ e. absurd (omega (arith, e));
     write_fault = λ e. absurd (omega (arith, e));
     no_memory = λ e. g;
     output = without_output 2 (λ e. absurd (omega (arith, e))) (inl (omega arith));
@@ -164,6 +166,7 @@ module _ (words : List (List ℕ)) (shelf : Loads) (out err : Span) where
     missing = λ e. (rose, (c, m, (name, due, none)));
     too_long = λ e. absurd (omega (arith, e));
     read_fault = λ e. absurd (omega (arith, e));
+    stim_refused = λ e. absurd (omega (arith, e));
     write_fault = λ e. absurd (omega (arith, e));
     no_memory = λ e. g;
     output = without_output 6 (λ e. absurd (omega (arith, e))) (inr (omega arith));
@@ -175,6 +178,7 @@ module _ (words : List (List ℕ)) (shelf : Loads) (out err : Span) where
     missing = λ e. absurd (omega (arith, e));
     too_long = λ e. (rose, (c, m, (name, due, long)));
     read_fault = λ e. absurd (omega (arith, e));
+    stim_refused = λ e. absurd (omega (arith, e));
     write_fault = λ e. absurd (omega (arith, e));
     no_memory = λ e. g;
     output = without_output 7 (λ e. absurd (omega (arith, e))) (inr (omega arith));
@@ -186,6 +190,7 @@ module _ (words : List (List ℕ)) (shelf : Loads) (out err : Span) where
     missing = λ e. absurd (omega (arith, e));
     too_long = λ e. absurd (omega (arith, e));
     read_fault = λ e. (rose, (c, m, (name, due, tt)));
+    stim_refused = λ e. absurd (omega (arith, e));
     write_fault = λ e. absurd (omega (arith, e));
     no_memory = λ e. g;
     output = without_output 8 (λ e. absurd (omega (arith, e))) (inr (omega arith));
@@ -197,24 +202,38 @@ module _ (words : List (List ℕ)) (shelf : Loads) (out err : Span) where
     missing = λ e. absurd (omega (arith, e));
     too_long = λ e. absurd (omega (arith, e));
     read_fault = λ e. absurd (omega (arith, e));
+    stim_refused = λ e. absurd (omega (arith, e));
     write_fault = λ e. absurd (omega (arith, e));
     no_memory = λ e. g;
     output = without_output 1 (λ e. absurd (omega (arith, e))) (inl (omega arith));
+    others = inl (omega arith);
+  }
+  by_decided o (bad_stim name line rule bad) g = record {
+    refused = λ e. absurd (omega (arith, e));
+    usage = λ e. absurd (omega (arith, e));
+    missing = λ e. absurd (omega (arith, e));
+    too_long = λ e. absurd (omega (arith, e));
+    read_fault = λ e. absurd (omega (arith, e));
+    stim_refused = λ e. (name, line, rule, bad);
+    write_fault = λ e. absurd (omega (arith, e));
+    no_memory = λ e. g;
+    output = without_output 10 (λ e. absurd (omega (arith, e))) (inr (omega arith));
     others = inl (omega arith);
   }
   by_decided o (checked file text P m told accepted) g =
       printed 0 (omega arith, inl refl) (all_done (Check file) text P m told accepted (λ f t s e. cc))
   by_decided o (assembled file text L m told compiled) g =
       printed 0 (omega arith, inl refl) (all_done (Asm file) text compiled.program m told compiled.means_so (λ f t s e. cc))
-  by_decided o (ran file ticks stim text s L lines word trapped m told compiled named lockstep beside) g =
+  by_decided o (ran file ticks stim text s L lines word trapped m told compiled stimulus lockstep beside) g =
       printed (status_of_run trapped word) (run_status trapped word)
-      (ran_so file ticks stim text s L lines word trapped m told compiled named lockstep)
+      (ran_so file ticks stim text s L lines word trapped m told compiled stimulus lockstep)
   by_decided o no_memory g = record {
     refused = λ e. absurd (omega (arith, e));
     usage = λ e. absurd (omega (arith, e));
     missing = λ e. absurd (omega (arith, e));
     too_long = λ e. absurd (omega (arith, e));
     read_fault = λ e. absurd (omega (arith, e));
+    stim_refused = λ e. absurd (omega (arith, e));
     write_fault = λ e. absurd (omega (arith, e));
     no_memory = λ e. g;
     output = without_output 12 (λ e. absurd (omega (arith, e))) (inr (omega arith));
@@ -228,6 +247,7 @@ module _ (words : List (List ℕ)) (shelf : Loads) (out err : Span) where
     missing = λ e. absurd (omega (arith, e));
     too_long = λ e. absurd (omega (arith, e));
     read_fault = λ e. absurd (omega (arith, e));
+    stim_refused = λ e. absurd (omega (arith, e));
     write_fault = λ e. rose;
     no_memory = λ e. absurd (omega (arith, e));
     output = without_output 9 (λ e. absurd (omega (arith, e))) (inr (omega arith));

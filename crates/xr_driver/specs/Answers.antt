@@ -1,6 +1,7 @@
 -- What the program answers: what is decided, and how it is delivered.
 use Rattle.std.specs.Prelude.{◌≡◌, ◌≢◌, ℕ, Bool, true, false, List, [], Option, Some, None}
 use Rattle.xw_io.specs.Outside.{Rose, IsFileOf, IsMissing, IsTooLong}
+use Rattle.xw_io.specs.declared.file.File.{File}
 use Rattle.xw_words.specs.declared.pos.Broken.{Broken}
 use Rattle.xs_instr.specs.declared.image.Image.{Image}
 use Rattle.xs_instr.specs.declared.image.Stim.{Stim}
@@ -9,11 +10,12 @@ use Rattle.xs_instr.specs.declared.trace.EndWord.TheVariants.{Finished, Trapped,
 use Rattle.xs_instr.specs.declared.trace.Record.{Record}
 use Rattle.xc_tree.specs.Plain.{Item}
 use Rattle.xr_driver.specs.Command.{Run, Asm, Check, Command, file_of, means}
-use Rattle.xr_driver.specs.Due.{IsDue}
-use Rattle.xr_driver.specs.Lines.{accepted_line, code_section, run_output, usage_line, no_file_line, too_long_line, read_fault_line, broken_line, no_memory_line}
+use Rattle.xr_driver.specs.Due.{IsDue, IsStimDue}
+use Rattle.xr_driver.specs.Lines.{accepted_line, code_section, run_output, usage_line, no_file_line, too_long_line, read_fault_line, broken_line, bad_line, no_memory_line}
 use Rattle.xr_driver.specs.Outside.{Loads, Span, Gained, GainedFront}
 use Rattle.xr_front.specs.Rules.{First, IsAccepted}
 use Rattle.xr_driver.specs.Runs.{IsCompiled, IsRunFor, IsRunOf, IsStimOf}
+use Rattle.xr_stim.specs.Stimulus.{IsFirstBroken}
 
 -- what is decided: the status, what is due on `out`, and the line that is due on `err`
 pub record Outcome : Type 0 where
@@ -41,6 +43,16 @@ abbrev pub status_of_run : Bool → EndWord → ℕ
 status_of_run true word = 3
 status_of_run false word = status_of_word word
 
+-- The words mean a command, and its stimulus, which is the file of this name, breaks a rule: this is the first line that breaks one, and
+-- the least that it breaks.
+pub record HasBadLine (words : List (List ℕ)) (files : Option (List File)) (name : List ℕ) (line rule : ℕ) : Type 0 where
+  pub c : Command
+  pub meant : means words ≡ Some c
+  pub due : IsStimDue files c name
+  pub text : List ℕ
+  pub told : IsFileOf files name text
+  pub first : IsFirstBroken text line rule
+
 -- Each outcome with its cause: one row for each that there is. Where memory is wanting for the words themselves, `main` answers
 -- without a call, and writes nothing, as for words that the system doesn't give (15).
 pub data Decided (words : List (List ℕ)) (shelf : Loads) : Outcome → Type 0 where
@@ -57,6 +69,8 @@ pub data Decided (words : List (List ℕ)) (shelf : Loads) : Outcome → Type 0 
   refused : (c : Command) (text : List ℕ) (b : Broken) → means words ≡ Some c →
       IsFileOf shelf.files (file_of c) text → First text b →
       Decided words shelf (says 1 (broken_line (file_of c) b))
+  bad_stim : (name : List ℕ) (line rule : ℕ) → HasBadLine words shelf.files name line rule →
+      Decided words shelf (says 10 (bad_line name line rule))
   checked : (file text : List ℕ) (P : List Item) → means words ≡ Some (Check file) →
       IsFileOf shelf.files file text → IsAccepted text P →
       Decided words shelf (prints 0 accepted_line)

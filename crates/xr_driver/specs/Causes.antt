@@ -9,7 +9,7 @@ use Rattle.xs_instr.specs.declared.trace.EndWord.{EndWord}
 use Rattle.xs_instr.specs.declared.trace.EndWord.TheVariants.{Finished, Stuck, Stopped}
 use Rattle.xs_instr.specs.declared.trace.Record.{Record}
 use Rattle.xc_tree.specs.Plain.{Item}
-use Rattle.xr_driver.specs.Answers.{status_of_run}
+use Rattle.xr_driver.specs.Answers.{HasBadLine, status_of_run}
 use Rattle.xr_driver.specs.Command.{Run, Asm, Check, Command, file_of, means, stim_of}
 use Rattle.xr_driver.specs.Due.{IsDue}
 use Rattle.xr_driver.specs.Lines.{accepted_line, code_section, run_output}
@@ -60,10 +60,11 @@ pub record OnlyCauses (words : List (List ℕ)) (shelf : Loads) (out err : Span)
   pub missing : status ≡ 6 → Rose shelf.misses shelf.misses' × OfDue words shelf.files (IsMissing shelf.files)
   pub too_long : status ≡ 7 → Rose shelf.longs shelf.longs' × OfDue words shelf.files (IsTooLong shelf.files)
   pub read_fault : status ≡ 8 → Rose shelf.faults shelf.faults' × OfDue words shelf.files (λ name. Unit {0})
+  pub stim_refused : status ≡ 10 → (name : List ℕ) × (line : ℕ) × (rule : ℕ) × HasBadLine words shelf.files name line rule
   pub write_fault : status ≡ 9 → Rose out.faults out.faults' ⊎ Rose err.faults err.faults'
   pub no_memory : status ≡ 12 → Gained out []
   pub output : OutputCauses words shelf status
-  pub others : (status ≤ 9) ⊎ (status ≡ 12)
+  pub others : (status ≤ 10) ⊎ (status ≡ 12)
 
 -- no count of faults rose
 pub record NoFault (shelf : Loads) (out err : Span) : Type 0 where
@@ -111,6 +112,7 @@ pub record AllCauses (words : List (List ℕ)) (files : List File) (out : Span) 
       IsRefusedOrAccepted text
   pub refused : (c : Command) (text : List ℕ) (b : Broken) → means words ≡ Some c → found files (file_of c) ≡ Some text →
       length text ≤ max_file → First text b → status ≡ 1
+  pub stim_refused : (name : List ℕ) (line rule : ℕ) → HasBadLine words (Some files) name line rule → status ≡ 10
   pub done : (c : Command) (text : List ℕ) (P : List Item) (s : Stim) → means words ≡ Some c → found files (file_of c) ≡ Some text →
       length text ≤ max_file → IsAccepted text P → IsStimOf (Some files) (stim_of c) s → DoneWith c text s out status
 

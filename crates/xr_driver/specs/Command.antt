@@ -1,5 +1,5 @@
 -- What the words of the command line mean.
-use Rattle.std.specs.Prelude.{ℕ, ◌&&◌, Bool, false, not, List, [], ◌∷◌, length, codes, bytes_eq, nat_eq, nat_lt, Option, Some, None, option_and_then, if◌then◌else◌}
+use Rattle.std.specs.Prelude.{ℕ, ◌&&◌, Bool, false, not, List, [], ◌∷◌, length, codes, bytes_eq, nat_eq, nat_lt, Option, Some, None, is_none, option_and_then, unwrap_or, if◌then◌else◌}
 use Rattle.std.specs.Option.{option_map}
 use Rattle.xr_stim.specs.Numbers.{number}
 
@@ -46,18 +46,49 @@ ticks_of word = if nat_lt most_digits (length word) then None else option_and_th
 abbrev pub is_ticks : List ℕ → Bool
 is_ticks word = bytes_eq word (codes "--ticks")
 
--- the run of a file for so many ticks, where both are told as they may be
-abbrev pub run_for : (file : List ℕ) → Option ℕ → Option Command
-run_for file ticks = if is_operand file then option_map (λ n. Run file n None) ticks else None
+-- what the words behind `run` are: the operands, and the number of ticks where it is told
+pub record RunWords : Type 0 where
+  pub operands : List (List ℕ)
+  pub ticks : Option ℕ
 
--- What the words behind `run` ask for: a file, and at most once, before it or behind it, `--ticks` and a number. So there are three
--- forms, and no other words are left as long as a run has one file and one option.
+-- no words
+abbrev pub no_words : RunWords
+no_words = record { operands = []; ticks = None }
+
+-- an operand in front of other words
+abbrev pub with_operand : List ℕ → RunWords → RunWords
+with_operand word behind = record { operands = word ∷ behind.operands; ticks = behind.ticks }
+
+-- the number of ticks in front of other words, which don't tell it too
+abbrev pub with_number : ℕ → RunWords → Option RunWords
+with_number n behind = if is_none behind.ticks then Some (record { operands = behind.operands; ticks = Some n }) else None
+
+-- the same of a word that is such a number
+abbrev pub with_ticks : Option ℕ → Option RunWords → Option RunWords
+with_ticks (Some n) (Some behind) = with_number n behind
+with_ticks ticks behind = None
+
+-- The words behind `run` are operands, and at most once, anywhere among them, `--ticks` with its number behind it.
+abbrev pub run_words : List (List ℕ) → Option RunWords
+run_words [] = Some no_words
+run_words (word ∷ []) = if is_operand word then Some (with_operand word no_words) else None
+run_words (word ∷ next ∷ rest) =
+    if is_operand word then option_map (with_operand word) (run_words (next ∷ rest))
+    else (if is_ticks word then with_ticks (ticks_of next) (run_words rest) else None)
+
+-- the run of one operand, the file, or of two, the file and that of the stimulus
+abbrev pub run_on : List (List ℕ) → (ticks : ℕ) → Option Command
+run_on (file ∷ []) ticks = Some (Run file ticks None)
+run_on (file ∷ stim ∷ []) ticks = Some (Run file ticks (Some stim))
+run_on other ticks = None
+
+-- the run for the number of ticks that is told, or else for 100,000
+abbrev pub run_as : RunWords → Option Command
+run_as words = run_on words.operands (unwrap_or words.ticks default_ticks)
+
+-- what the words behind `run` ask for
 abbrev pub run_of : List (List ℕ) → Option Command
-run_of (file ∷ []) = run_for file (Some default_ticks)
-run_of (first ∷ second ∷ third ∷ []) =
-    if is_ticks first then run_for third (ticks_of second)
-    else (if is_ticks second then run_for first (ticks_of third) else None)
-run_of other = None
+run_of words = option_and_then run_as (run_words words)
 
 -- what the word of another command asks for, with the words behind it: a file
 abbrev pub other_of : (word : List ℕ) → List (List ℕ) → Option Command

@@ -1,22 +1,31 @@
 -- What is due, of the values that the program holds.
-use Rattle.std.specs.Prelude.{ℕ, List, [], None}
+use Rattle.std.specs.Prelude.{ℕ, List, [], ◌∷◌, None, Some}
 use Rattle.xs_instr.specs.Valid.{Valid}
 use Rattle.xr_driver.specs.declared.decide.Decision.{Decision}
 use Rattle.xr_driver.specs.declared.decide.Printed.{Printed}
 use Rattle.xr_driver.specs.declared.decide.Printed.TheVariants.{Nothing, Accepted, Code, Whole}
 use Rattle.xr_driver.specs.declared.decide.Line.{Line}
-use Rattle.xr_driver.specs.declared.decide.Line.TheVariants.{Nothing as NoLine, Usage, NoFile, TooLong, ReadFault, Broken as BrokenLine, NoMemory}
+use Rattle.xr_driver.specs.declared.decide.Line.TheVariants.{Nothing as NoLine, Usage, NoFile, TooLong, ReadFault, Broken as BrokenLine, BadLine, NoMemory}
 use Rattle.xr_driver.specs.declared.words.Command.{Command}
 use Rattle.xr_driver.specs.declared.words.Command.TheVariants.{Run, Asm, Check}
+use Rattle.xr_driver.specs.declared.words.Operands.{Operands}
+use Rattle.xr_driver.specs.declared.words.Operands.TheVariants.{Nothing as NoOperand, File, FileAndStim}
 use Rattle.xr_driver.specs.Command.{Command as Meant, Run as MeansRun, Asm as MeansAsm, Check as MeansCheck}
-use Rattle.xr_driver.specs.Lines.{accepted_line, code_section, run_output, usage_line, no_file_line, too_long_line, read_fault_line, broken_line, no_memory_line}
+use Rattle.xr_driver.specs.Lines.{accepted_line, code_section, run_output, usage_line, no_file_line, too_long_line, read_fault_line, broken_line, bad_line, no_memory_line}
 use Rattle.xr_driver.specs.Answers.{Outcome}
 
 -- the meaning of a command
 abbrev pub command_of : Command → Meant
-command_of (Run file ticks) = MeansRun file.now ticks None
+command_of (Run file None ticks) = MeansRun file.now ticks None
+command_of (Run file (Some stim) ticks) = MeansRun file.now ticks (Some stim.now)
 command_of (Asm file) = MeansAsm file.now
 command_of (Check file) = MeansCheck file.now
+
+-- the operands among the words behind `run`
+abbrev pub names_of : Operands → List (List ℕ)
+names_of NoOperand = []
+names_of (File file) = file.now ∷ []
+names_of (FileAndStim file stim) = file.now ∷ stim.now ∷ []
 
 -- what is due on `out`
 abbrev pub printed_text : Printed → List ℕ
@@ -40,6 +49,7 @@ line_text (NoFile name) = no_file_line name.now
 line_text (TooLong name) = too_long_line name.now
 line_text (ReadFault name) = read_fault_line name.now
 line_text (BrokenLine name broken) = broken_line name.now broken
+line_text (BadLine name line rule) = bad_line name.now line rule
 line_text NoMemory = no_memory_line
 
 -- what is decided

@@ -7,3 +7,4 @@ pub mod Answers
 pub mod Causes
 pub mod Decision
 pub mod Parts
+pub mod Reads

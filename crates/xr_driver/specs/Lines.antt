@@ -34,5 +34,9 @@ read_fault_line name = codes "read fault " ++ name ++ codes "\n"
 unfoldable pub broken_line : List ℕ → Broken → List ℕ
 broken_line name b = name ++ codes ":" ++ pos_text b.pos ++ codes ": rule " ++ decimal b.rule ++ codes "\n"
 
+-- the line of a stimulus that breaks a rule, and the rule, as `STIM:LINE: rule N`
+unfoldable pub bad_line : List ℕ → (line : ℕ) → (rule : ℕ) → List ℕ
+bad_line name line rule = name ++ codes ":" ++ decimal line ++ codes ": rule " ++ decimal rule ++ codes "\n"
+
 abbrev pub no_memory_line : List ℕ
 no_memory_line = codes "out of memory\n"

@@ -1,5 +1,6 @@
 -- What a text compiles to, and the run that is written.
 use Rattle.std.specs.Prelude.{◌≡◌, ◌↔◌, ℕ, Bool, true, List, [], Option, Some, None}
+use Rattle.xw_io.specs.Outside.{IsFileOf}
 use Rattle.xw_io.specs.declared.file.File.{File}
 use Rattle.xs_instr.specs.declared.image.Image.{Image}
 use Rattle.xs_instr.specs.declared.image.Stim.{Stim}
@@ -20,6 +21,7 @@ use Rattle.xr_match.specs.Matching.{AgreeQuietly, MatchingRun}
 use Rattle.xr_match.specs.Meanings.{of_text}
 use Rattle.xs_instr.specs.Words.{HasWords}
 use Rattle.xr_front.specs.Rules.{IsAccepted}
+use Rattle.xr_stim.specs.Stimulus.{Means}
 
 -- a valid image that implements the program that the text means. Its numbers are words, so no other such image has its
 -- listing
@@ -37,9 +39,10 @@ pub record IsCompiled (text : List ℕ) (L : Image) : Type 0 where
 abbrev pub no_stim : Stim
 no_stim = record { lines = [] }
 
--- the stimulus of a run, by the file that is named for it: none is named, and there are no lines
+-- the stimulus of a run, by the file that is named for it: none is named, and there are no lines, or it is what the file's text means
 pub data IsStimOf (files : Option (List File)) : Option (List ℕ) → Stim → Type 0 where
   unnamed : IsStimOf files None no_stim
+  named : (name text : List ℕ) (s : Stim) → IsFileOf files name text → Means text s → IsStimOf files (Some name) s
 
 -- what the run in lockstep recorded in so many rounds from the start, how it ended, and whether a thread is trapped then. It is
 -- told to have finished exactly where all roots have ended, and so the program, and to be trapped only where a thread is

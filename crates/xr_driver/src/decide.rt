@@ -1,28 +1,26 @@
 // What is answered, before anything is written.
 
-ghost use Rattle.std.specs.Prelude.{◌≡◌, ◌≤◌, ℕ, List, None, length, map, string_bytes, IfErr, IfOk};
+ghost use Rattle.std.specs.Prelude.{◌≡◌, ◌≤◌, ℕ, List, Option, map, string_bytes, IfOk};
 ghost use Rattle.xc_kernel.specs.Kernels.{kernel_of};
-ghost use Rattle.xc_tree.specs.Refusals.{IfBroken};
 ghost use Rattle.xl_image.specs.Roots.{KernelIsBuilt};
-ghost use Rattle.xs_instr.specs.Valid.{Valid};
+ghost use Rattle.xs_instr.specs.Valid.{IsGoodStim, Valid};
+ghost use Rattle.xs_instr.specs.declared.image.Stim.{Stim as Stimulus};
 ghost use Rattle.xr_driver.specs.Answers.{Decided, status_of_run};
 ghost use Rattle.xr_driver.specs.Command.{Asm as MeansAsm, Run as MeansRun};
 ghost use Rattle.xr_driver.specs.Decision.{command_of, outcome_of, IsPrintable};
 ghost use Rattle.xr_driver.specs.Outside.{loads};
-ghost use Rattle.xr_driver.specs.Parts.{IsAnswer, IsAnswerOnText};
-ghost use Rattle.xr_front.specs.Rules.{First, IsKernelOf};
+ghost use Rattle.xr_driver.specs.Parts.{IsAnswer, IsAnswerOn, IsAnswerWith};
+ghost use Rattle.xr_front.specs.Rules.{IsKernelOf};
 ghost use Rattle.xr_driver.specs.Runs.{IsCompiled};
-ghost use Rattle.xw_io.specs.Outside.{max_file};
 
-use crate::run::{Run, run_for};
+use crate::files::read_files;
+use crate::run::{Run, run_lockstep};
 use crate::words::{Command, meaning};
 use std::alloc::Global;
 use xc_disjoint::Checked;
-use xc_tree::Refusal;
-use xr_front::read_text;
 use xr_simulation::compile;
-use xs_instr::{EndWord, Image};
-use xw_io::{LoadErr, Shelf};
+use xs_instr::{EndWord, Image, Stim};
+use xw_io::Shelf;
 use xw_words::{Broken, Memory};
 
 /// What is due on `out`.
@@ -43,6 +41,7 @@ pub enum Line<'w> {
     TooLong(&'w str),
     ReadFault(&'w str),
     Broken(&'w str, Broken),
+    BadLine(&'w str, u32, u16),
     NoMemory,
 }
 
@@ -68,7 +67,7 @@ pub fn decide<'w, S: Shelf>(alloc: Global, words: &'w [String], shelf: &mut S) -
     }
 }
 
-/// What is answered to a command: first its file is loaded.
+/// What is answered to a command: first its files are read.
 fn answer<'w, S: Shelf>(alloc: Global, command: Command<'w>, shelf: &mut S) -> Decision<'w>
     ensures decided { IsAnswer (loads S.files S.faults S.misses S.longs shelf.old shelf.new)
         (command_of command.entry) (outcome_of result) }
@@ -76,45 +75,18 @@ fn answer<'w, S: Shelf>(alloc: Global, command: Command<'w>, shelf: &mut S) -> D
     ensures files { S.files shelf.new ≡ S.files shelf.old }
     ensures faults { S.faults shelf.old ≤ S.faults shelf.new }
 {
-    let file = command.file();
-    match shelf.load(alloc, file) {
-        Ok(text) => answer_on_text(alloc, command, text),
-        Err(LoadErr::Missing) => saying(6, Line::NoFile(file)),
-        Err(LoadErr::TooLong) => saying(7, Line::TooLong(file)),
-        Err(LoadErr::Failed) => saying(8, Line::ReadFault(file)),
-        Err(LoadErr::Memory) => saying(12, Line::NoMemory),
+    match read_files(alloc, command, shelf) {
+        Ok((checked, stim)) => carry_out(alloc, command, checked, stim),
+        Err(refused) => saying(refused.status, refused.line),
     }
 }
 
-/// What is answered to a command whose file has this text.
-fn answer_on_text<'w>(alloc: Global, command: Command<'w>, text: Vec<u8>) -> Decision<'w>
-    requires { length text.items ≤ max_file }
-    ensures decided { IsAnswerOnText (command_of command.entry) text.items (outcome_of result) }
-    ensures printable { IsPrintable result.printed }
-{
-    match read_whole(alloc, text) {
-        Ok(checked) => carry_out(alloc, command, checked),
-        Err(Refusal::Broken(broken)) => saying(1, Line::Broken(command.file(), broken)),
-        Err(Refusal::Memory) => saying(12, Line::NoMemory),
-    }
-}
-
-/// Reads a text, which is dropped then.
-fn read_whole(alloc: Global, text: Vec<u8>) -> Result<Checked, Refusal>
-    requires { length text.items ≤ max_file }
-    ensures accepted { IfOk result (λ checked. IsKernelOf text.items (kernel_of checked)) }
-    ensures built { IfOk result (λ checked. KernelIsBuilt (kernel_of checked)) }
-    ensures first { IfErr result
-        (λ refusal. IfBroken refusal (λ broken. First text.items broken)) }
-{
-    read_text(alloc, text.as_slice())
-}
-
-/// What is answered to a command whose text is accepted and has this kernel.
-fn carry_out<'w>(alloc: Global, command: Command<'w>, checked: Checked) -> Decision<'w>
+/// What is answered to a command whose text is accepted and has this kernel, under its stimulus.
+fn carry_out<'w>(alloc: Global, command: Command<'w>, checked: Checked, stim: Stim) -> Decision<'w>
     requires built { KernelIsBuilt (kernel_of checked) }
-    ensures decided { (text : List ℕ) → IsKernelOf text (kernel_of checked) →
-        IsAnswerOnText (command_of command.entry) text (outcome_of result) }
+    requires good { IsGoodStim stim }
+    ensures decided { IsAnswerOn (command_of command.entry) (kernel_of checked)
+        stim (outcome_of result) }
     ensures printable { IsPrintable result.printed }
 {
     match command {
@@ -123,15 +95,15 @@ fn carry_out<'w>(alloc: Global, command: Command<'w>, checked: Checked) -> Decis
             printing(0, Printed::Accepted)
         }
         Command::Asm(_) => assemble(alloc, checked),
-        Command::Run { ticks, .. } => compile_and_run(alloc, checked, ticks),
+        Command::Run { ticks, .. } => compile_and_run(alloc, checked, &stim, ticks),
     }
 }
 
 /// The listing of a kernel's image.
 fn assemble<'w>(alloc: Global, checked: Checked) -> Decision<'w>
     requires built { KernelIsBuilt (kernel_of checked) }
-    ensures decided { (file text : List ℕ) → IsKernelOf text (kernel_of checked) →
-        IsAnswerOnText (MeansAsm file) text (outcome_of result) }
+    ensures decided { (file : List ℕ) (s : Stimulus) →
+        IsAnswerOn (MeansAsm file) (kernel_of checked) s (outcome_of result) }
     ensures printable { IsPrintable result.printed }
 {
     match compile_whole(alloc, checked) {
@@ -140,15 +112,16 @@ fn assemble<'w>(alloc: Global, checked: Checked) -> Decision<'w>
     }
 }
 
-/// The image of a kernel and its run for so many ticks. The kernel is dropped before the run.
-fn compile_and_run<'w>(alloc: Global, checked: Checked, ticks: u32) -> Decision<'w>
+/// The image of a kernel and its run under a stimulus for so many ticks. The kernel is dropped before the run.
+fn compile_and_run<'w>(alloc: Global, checked: Checked, stim: &Stim, ticks: u32) -> Decision<'w>
     requires built { KernelIsBuilt (kernel_of checked) }
-    ensures decided { (file text : List ℕ) → IsKernelOf text (kernel_of checked) →
-        IsAnswerOnText (MeansRun file ticks None) text (outcome_of result) }
+    requires good { IsGoodStim stim.now }
+    ensures decided { (file : List ℕ) (name : Option (List ℕ)) →
+        IsAnswerOn (MeansRun file ticks name) (kernel_of checked) stim.now (outcome_of result) }
     ensures printable { IsPrintable result.printed }
 {
     match compile_whole(alloc, checked) {
-        Ok(image) => run_image(alloc, image, ticks),
+        Ok(image) => run_image(alloc, image, stim, ticks),
         Err(Memory) => saying(12, Line::NoMemory),
     }
 }
@@ -165,14 +138,15 @@ fn compile_whole(alloc: Global, checked: Checked) -> Result<Image, Memory>
     image
 }
 
-/// An image and its run for so many ticks.
-fn run_image<'w>(alloc: Global, image: Image, ticks: u32) -> Decision<'w>
+/// An image and its run under a stimulus for so many ticks.
+fn run_image<'w>(alloc: Global, image: Image, stim: &Stim, ticks: u32) -> Decision<'w>
     requires valid { Valid image }
-    ensures decided { (file text : List ℕ) → IsCompiled text image →
-        IsAnswerOnText (MeansRun file ticks None) text (outcome_of result) }
+    requires good { IsGoodStim stim.now }
+    ensures decided { (file : List ℕ) (name : Option (List ℕ)) →
+        IsAnswerWith (MeansRun file ticks name) image stim.now (outcome_of result) }
     ensures printable { IsPrintable result.printed }
 {
-    match run_for(alloc, &image, ticks) {
+    match run_lockstep(alloc, &image, stim, ticks) {
         Ok(run) => {
             let status = status(run.trapped, run.end);
             printing(status, Printed::Whole(image, run))

@@ -4,7 +4,7 @@ ghost use Rattle.std.specs.Prelude.{◌≡◌, ◌≢◌, ◌≤◌, ◌++◌, [
 ghost use Rattle.xs_instr.specs.Texts.{all_texts, record_line};
 ghost use Rattle.xw_io.specs.Gathering.{Drew};
 ghost use Rattle.xr_driver.specs.Answers.{Delivered};
-ghost use Rattle.xr_driver.specs.Lines.{broken_line, usage_line};
+ghost use Rattle.xr_driver.specs.Lines.{bad_line, broken_line, usage_line};
 ghost use Rattle.xr_driver.specs.Decision.{outcome_of, printed_text, line_text, IsPrintable};
 ghost use Rattle.xr_driver.specs.Outside.{Gave, span};
 
@@ -105,6 +105,7 @@ fn add_line<O: Sink>(out: &mut Out<'_, O>, line: &Line)
         Line::TooLong(name) => add_about(out, b"too long ", name),
         Line::ReadFault(name) => add_about(out, b"read fault ", name),
         Line::Broken(name, broken) => add_broken(out, name, *broken),
+        Line::BadLine(name, line, rule) => add_bad_line(out, name, *line, *rule),
         Line::NoMemory => out.add(b"out of memory\n"),
     }
 }
@@ -136,6 +137,19 @@ fn add_broken<O: Sink>(out: &mut Out<'_, O>, file: &str, broken: Broken)
     add_pos(out, broken.pos);
     out.add(b": rule ");
     add_number(out, broken.rule as u32);
+    out.add(b"\n");
+}
+
+/// Adds the line of a stimulus that breaks a rule, and the rule.
+fn add_bad_line<O: Sink>(out: &mut Out<'_, O>, file: &str, line: u32, rule: u16)
+    ensures same_sink { out.new.sink.ghost_name ≡ out.old.sink.ghost_name }
+    ensures drew { Drew O.bytes O.faults out.old out.new (bad_line file.now line rule) }
+{
+    out.add(file.as_bytes());
+    out.add(b":");
+    add_number(out, line);
+    out.add(b": rule ");
+    add_number(out, rule as u32);
     out.add(b"\n");
 }
 

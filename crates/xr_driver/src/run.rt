@@ -1,11 +1,11 @@
 ghost use Rattle.std.specs.Prelude.{◌≡◌, IfOk};
 ghost use Rattle.xs_instr.specs.Valid.{IsGoodStim, Valid};
-ghost use Rattle.xr_driver.specs.Runs.{IsRunFor, no_stim};
+ghost use Rattle.xr_driver.specs.Runs.{IsRunFor};
 
 use std::alloc::Global;
 use xs_fabric::Machine;
 use xs_instr::{EndWord, Image, Stim};
-use xw_words::{List, Memory};
+use xw_words::Memory;
 
 /// The most records that one round makes: one for each thread of the four cores.
 const RECORDS_A_ROUND: u32 = 32;
@@ -16,18 +16,6 @@ pub struct Run {
     pub machine: Machine,
     pub end: EndWord,
     pub trapped: bool,
-}
-
-/// The run of an image for so many ticks without a stimulus.
-pub fn run_for(alloc: Global, image: &Image, ticks: u32) -> Result<Run, Memory>
-    requires valid { Valid image.now }
-    ensures { IfOk result (λ run.
-        IsRunFor image.now no_stim ticks run.machine.state.trace run.end run.trapped) }
-{
-    let stim = Stim {
-        lines: List::new(alloc),
-    };
-    run_lockstep(alloc, image, &stim, ticks)
 }
 
 /// Runs an image in lockstep under a stimulus, for so many rounds from the start.

@@ -1,8 +1,9 @@
 //! What the words of the command line mean.
 
-ghost use Rattle.std.specs.Prelude.{◌≡◌, [], ◌∷◌, None, Some, map, MatchOption, string_bytes};
-ghost use Rattle.xr_driver.specs.Command.{file_of, is_operand, is_ticks, means, run_of, ticks_of};
-ghost use Rattle.xr_driver.specs.Decision.{command_of};
+ghost use Rattle.std.specs.Prelude.{◌≡◌, ◌++◌, [], ◌∷◌, None, Some, length, map, MatchOption, string_bytes};
+ghost use Rattle.xr_driver.specs.Command as spec;
+ghost use Rattle.xr_driver.specs.Command.{file_of, is_operand, is_ticks, means, other_of, stim_of, ticks_of};
+ghost use Rattle.xr_driver.specs.Decision.{command_of, names_of};
 
 use xr_stim::number;
 
@@ -18,8 +19,12 @@ const MOST_DIGITS: usize = 6;
 /// What the words of the command line ask for.
 #[derive(Clone, Copy)]
 pub enum Command<'w> {
-    /// Compile a file, and run it for so many ticks.
-    Run { file: &'w str, ticks: u32 },
+    /// Compile a file, and run it for so many ticks, under the stimulus of another file where one is named.
+    Run {
+        file: &'w str,
+        stim: Option<&'w str>,
+        ticks: u32,
+    },
     /// Compile a file, and write its listing.
     Asm(&'w str),
     /// Say whether a file is accepted.
@@ -37,6 +42,26 @@ impl<'w> Command<'w> {
             Command::Check(file) => file,
         }
     }
+
+    /// The file with the stimulus, where the command names one.
+    pub fn stim(self) -> Option<&'w str>
+        ensures { MatchOption result (stim_of (command_of self.entry) ≡ None)
+            (λ name. stim_of (command_of self.entry) ≡ Some name.now) }
+    {
+        match self {
+            Command::Run { stim, .. } => stim,
+            Command::Asm(_) => None,
+            Command::Check(_) => None,
+        }
+    }
+}
+
+/// The operands among the words behind `run`.
+#[derive(Clone, Copy)]
+pub enum Operands<'w> {
+    Nothing,
+    File(&'w str),
+    FileAndStim(&'w str, &'w str),
 }
 
 /// Whether a word is neither empty nor an option, which begins with two dashes.
@@ -73,38 +98,29 @@ fn number_of_ticks(word: &[u8]) -> Option<u32>
 
 /// The command that the words mean, if they mean one. None of it is a word that is empty, or one that begins with two dashes but
 /// `--ticks`, which may stand once behind `run`, with its number behind it.
-#[tactic(auto, using(crate::proofs::NoMeaning::no_meaning))]
 pub fn meaning(words: &[String]) -> Option<Command<'_>>
     ensures { MatchOption result (means (map string_bytes words.now) ≡ None)
         (λ command. means (map string_bytes words.now) ≡ Some (command_of command)) }
 {
-    if words.len() == 2 {
-        return on_file(words[0].as_str(), words[1].as_str());
+    let [word, behind @ ..] = words else {
+        return None;
+    };
+    if word.as_str() == "run" {
+        return run_of(behind);
     }
-    if words.len() == 4 {
-        return on_four(
-            words[0].as_str(),
-            words[1].as_str(),
-            words[2].as_str(),
-            words[3].as_str(),
-        );
+    match behind {
+        [file] => on_file(word.as_str(), file.as_str()),
+        _ => None,
     }
-    None
 }
 
-/// The command that a word and a file mean, if they mean one.
+/// The command that another word and a file mean, if they mean one.
 fn on_file<'w>(word: &str, file: &'w str) -> Option<Command<'w>>
-    ensures { MatchOption result (means (word.now ∷ file.now ∷ []) ≡ None)
-        (λ command. means (word.now ∷ file.now ∷ []) ≡ Some (command_of command)) }
+    ensures { MatchOption result (other_of word.now (file.now ∷ []) ≡ None)
+        (λ command. other_of word.now (file.now ∷ []) ≡ Some (command_of command)) }
 {
     if !names_file(file.as_bytes()) {
         return None;
-    }
-    if word == "run" {
-        return Some(Command::Run {
-            file,
-            ticks: DEFAULT_TICKS,
-        });
     }
     if word == "asm" {
         return Some(Command::Asm(file));
@@ -115,33 +131,61 @@ fn on_file<'w>(word: &str, file: &'w str) -> Option<Command<'w>>
     None
 }
 
-/// The command that four words mean, if they mean one: it is a run.
-fn on_four<'w>(word: &str, first: &'w str, second: &str, third: &'w str) -> Option<Command<'w>>
-    ensures { MatchOption result (means (word.now ∷ first.now ∷ second.now ∷ third.now ∷ []) ≡ None)
-        (λ command. means (word.now ∷ first.now ∷ second.now ∷ third.now ∷ [])
-        ≡ Some (command_of command)) }
+/// The run that the words behind `run` ask for, if they ask for one: one operand or two, and `--ticks` with its number at most
+/// once, anywhere among them.
+fn run_of(words: &[String]) -> Option<Command<'_>>
+    ensures { MatchOption result (spec.run_of (map string_bytes words.now) ≡ None)
+        (λ command. spec.run_of (map string_bytes words.now) ≡ Some (command_of command)) }
 {
-    if word != "run" {
-        return None;
+    let mut operands = Operands::Nothing;
+    let mut ticks = None;
+    let mut rest = words;
+    'words: while let [word, behind @ ..] = rest {
+        if names_file(word.as_bytes()) {
+            operands = with_operand(operands, word.as_str())?;
+            rest = behind;
+        } else {
+            let [number, behind @ ..] = behind else {
+                return None;
+            };
+            if !announces_ticks(word.as_str()) || ticks.is_some() {
+                return None;
+            }
+            ticks = Some(number_of_ticks(number.as_bytes())?);
+            rest = behind;
+        }
     }
-    timed_run(first, second, third)
+    run_on(operands, ticks.unwrap_or(DEFAULT_TICKS))
 }
 
-/// The run that three words behind `run` ask for, if they ask for one: `--ticks` with its number, before a file or behind it.
-fn timed_run<'w>(first: &'w str, second: &str, third: &'w str) -> Option<Command<'w>>
-    ensures { MatchOption result (run_of (first.now ∷ second.now ∷ third.now ∷ []) ≡ None)
-        (λ command. run_of (first.now ∷ second.now ∷ third.now ∷ []) ≡ Some (command_of command)) }
+/// These operands and one more. A run has two at most.
+fn with_operand<'w>(before: Operands<'w>, word: &'w str) -> Option<Operands<'w>>
+    ensures { MatchOption result (length (names_of before.entry) ≡ 2)
+        (λ after. names_of after ≡ names_of before.entry ++ word.now ∷ []) }
 {
-    let (file, number) = if announces_ticks(first) {
-        (third, second)
-    } else if announces_ticks(second) {
-        (first, third)
-    } else {
-        return None;
-    };
-    if !names_file(file.as_bytes()) {
-        return None;
+    match before {
+        Operands::Nothing => Some(Operands::File(word)),
+        Operands::File(file) => Some(Operands::FileAndStim(file, word)),
+        Operands::FileAndStim(_, _) => None,
     }
-    let ticks = number_of_ticks(number.as_bytes())?;
-    Some(Command::Run { file, ticks })
+}
+
+/// The run of these operands for so many ticks, if there is an operand.
+fn run_on(operands: Operands<'_>, ticks: u32) -> Option<Command<'_>>
+    ensures { MatchOption result (spec.run_on (names_of operands.entry) ticks ≡ None)
+        (λ command. spec.run_on (names_of operands.entry) ticks ≡ Some (command_of command)) }
+{
+    match operands {
+        Operands::Nothing => None,
+        Operands::File(file) => Some(Command::Run {
+            file,
+            stim: None,
+            ticks,
+        }),
+        Operands::FileAndStim(file, stim) => Some(Command::Run {
+            file,
+            stim: Some(stim),
+            ticks,
+        }),
+    }
 }

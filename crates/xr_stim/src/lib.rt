@@ -2,7 +2,7 @@
 //! the first line that breaks one of the rules 801 to 805.
 //!
 //! Proved is that a text has exactly one of the two, and that it is the one answered. Lines, words and numbers are read without memory,
-//! by calls that will serve other texts too that are read by lines. The program takes no stimulus yet.
+//! by calls that will serve other texts too that are read by lines.
 #![tactic(auto)]
 
 mod form;

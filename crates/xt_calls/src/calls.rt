@@ -62,13 +62,13 @@ fn is_call_right<R: Threads + Wait + Sync, O: Sink>(
     if !has_status {
         told.add(b"another status\n");
     }
-    let is_unread = outside.is_unread(alloc, case);
-    if !is_unread {
-        told.add(b"a file was loaded\n");
+    let has_loads = outside.has_loads(alloc, case);
+    if !has_loads {
+        told.add(b"another number of loads\n");
     }
     let out = is_as_wanted(alloc, told, case, Stream::Out, outside.out.bytes())?;
     let err = is_as_wanted(alloc, told, case, Stream::Err, outside.err.bytes())?;
-    let holds = has_status && is_unread && out && err;
+    let holds = has_status && has_loads && out && err;
     if !holds {
         told.add(call.name().as_bytes());
         told.add(b": ");

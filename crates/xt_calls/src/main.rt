@@ -16,7 +16,13 @@ use std::thread::Threads;
 use xw_io::{FsShelf, Out, Shelf, Sink, StdSink};
 
 /// The files of cases.
-const FILES: [&str; 4] = ["words.txt", "texts.txt", "runs.txt", "channels.txt"];
+const FILES: [&str; 5] = [
+    "words.txt",
+    "texts.txt",
+    "runs.txt",
+    "channels.txt",
+    "stimuli.txt",
+];
 
 /// Ends with 1 where a case differs, a file can't be read or the output fails.
 fn main(rt: HostRuntime) -> ExitCode {

@@ -64,7 +64,8 @@ fn behind<'a>(
 /// Whether a line of a case can begin so.
 fn is_mark(mark: &str) -> bool {
     let marks = [
-        "case", "call", "fails", "unread", "status", "|", "/", "*", "=", "..", "+", "!",
+        "case", "call", "fails", "loads", "status", "file", "|", "/", "*", "*|", "=", "..", "+",
+        "!",
     ];
     marks.contains(&mark)
 }

@@ -9,8 +9,8 @@ use xr_driver::{still, xcsim};
 use xw_io::{File, MemShelf, MemSink, OpenGate, Shelf};
 use xw_words::{List, Memory};
 
-/// The only file that there is.
-const FILE: &str = "a.xc";
+/// The file that the lines of a case tell of at first.
+const FIRST_FILE: &str = "a.xc";
 
 /// The most bytes that a sink takes.
 const MOST_BYTES: usize = 65_536;
@@ -42,22 +42,31 @@ pub struct Outside {
 
 /// What a case has at first.
 pub fn outside_of(alloc: Global, case: &str) -> Result<Outside, Trouble> {
-    let text = text_of(alloc, case)?;
-    let shelf = shelf_of(alloc, text, fails_of(alloc, case, "fails load ")?)?;
+    let shelf = MemShelf::new(files_of(alloc, case)?, load_fails_of(alloc, case)?);
     let out = sink_of(alloc, case, "fails out ")?;
     let err = sink_of(alloc, case, "fails err ")?;
     Ok(Outside { shelf, out, err })
 }
 
-/// A shelf with one file, of this text.
-fn shelf_of(alloc: Global, text: String, fails: List<u32>) -> Result<MemShelf, Memory> {
-    let name = Vec::from_slice(alloc, FILE.as_bytes())?;
+/// The files of a case: what its lines say of `a.xc`, and behind a line `file NAME` of the file of that name.
+fn files_of(alloc: Global, case: &str) -> Result<List<File>, Trouble> {
     let mut files = List::new(alloc);
-    files.push(File {
+    let (first, _) = case.split_once("\nfile ").unwrap_or((case, ""));
+    files.push(file_of(alloc, FIRST_FILE, first)?)?;
+    for part in case.split("\nfile ").skip(1) {
+        let (name, lines) = part.split_once('\n').unwrap_or((part, ""));
+        files.push(file_of(alloc, name, lines)?)?;
+    }
+    Ok(files)
+}
+
+fn file_of(alloc: Global, name: &str, lines: &str) -> Result<File, Trouble> {
+    let text = text_of(alloc, lines)?;
+    let name = Vec::from_slice(alloc, name.as_bytes())?;
+    Ok(File {
         name: List::from_vec(name),
         bytes: List::from_vec(text.into_bytes()),
-    })?;
-    Ok(MemShelf::new(files, fails))
+    })
 }
 
 fn sink_of(alloc: Global, case: &str, whose: &str) -> Result<MemSink, Trouble> {
@@ -71,6 +80,17 @@ fn fails_of(alloc: Global, case: &str, whose: &str) -> Result<List<u32>, Trouble
     for line in case.split('\n') {
         if let Some(text) = line.strip_prefix(whose) {
             fails.push(number(text)?)?;
+        }
+    }
+    Ok(fails)
+}
+
+/// The numbers of the loads that fail. Where a case tells how many loads are made, the next one does.
+fn load_fails_of(alloc: Global, case: &str) -> Result<List<u32>, Trouble> {
+    let mut fails = fails_of(alloc, case, "fails load ")?;
+    for line in case.split('\n') {
+        if let Some(loads) = line.strip_prefix("loads ") {
+            fails.push(number(loads)?.saturating_add(1))?;
         }
     }
     Ok(fails)
@@ -93,9 +113,9 @@ impl Outside {
         })
     }
 
-    /// Whether no file was loaded, where a case wants that: the first load fails then, and so this is the first.
-    pub fn is_unread(&mut self, alloc: Global, case: &str) -> bool {
-        !case.contains("\nunread\n") || self.shelf.load(alloc, FILE).is_err()
+    /// Whether as many files were loaded as a case tells, where it does: the load behind these fails, and that has to be this one.
+    pub fn has_loads(&mut self, alloc: Global, case: &str) -> bool {
+        !case.contains("\nloads ") || self.shelf.load(alloc, FIRST_FILE).is_err()
     }
 }
 

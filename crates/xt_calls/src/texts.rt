@@ -1,9 +1,9 @@
-// The text of a case's file.
+// The texts of a case's files.
 
 use crate::trouble::Trouble;
 use std::alloc::{AllocError, Global};
 
-/// The text that the lines of a case make.
+/// The text that these lines of a case make.
 pub fn text_of(alloc: Global, case: &str) -> Result<String, Trouble> {
     let mut text = String::new(alloc);
     for line in case.split('\n') {
@@ -23,16 +23,21 @@ fn add_line(text: &mut String, line: &str) -> Result<(), Trouble> {
         "/" => text.push_str(piece)?,
         "*" => {
             let (times, piece) = piece.split_once(' ').unwrap_or((piece, " "));
-            add_times(text, number(times)?, piece)?;
+            add_times(text, number(times)?, piece, "")?;
+        }
+        "*|" => {
+            let (times, line) = piece.split_once(' ').unwrap_or((piece, ""));
+            add_times(text, number(times)?, line, "\n")?;
         }
         _ => {}
     }
     Ok(())
 }
 
-fn add_times(text: &mut String, times: u32, piece: &str) -> Result<(), AllocError> {
+fn add_times(text: &mut String, times: u32, piece: &str, end: &str) -> Result<(), AllocError> {
     for _time in 0..times {
         text.push_str(piece)?;
+        text.push_str(end)?;
     }
     Ok(())
 }

@@ -1,14 +1,8 @@
-use Rattle.xr_driver.proofs.Decides.{assembled_at, text_without_memory}
+use Rattle.xr_driver.proofs.Decides.{all_without_memory, assembled_at}
 use Rattle.xr_driver.proofs.decide.assemble.Goals as goal
 
 pub returns-in-Ok-clause-decided : goal.returns-in-Ok-clause-decided
-returns-in-Ok-clause-decided c file text is = rw c.printing.ensures (assembled_at file text _ (c.in-Ok.ensures.compiled text is))
-
-pub returns-in-Ok-clause-printable : goal.returns-in-Ok-clause-printable
-returns-in-Ok-clause-printable c = rw c.printing.ensures c.in-Ok.ensures.valid
+returns-in-Ok-clause-decided c file s = rw c.printing.ensures (assembled_at _ _ c.in-Ok.ensures.compiled file s)
 
 pub returns-in-Err-clause-decided : goal.returns-in-Err-clause-decided
-returns-in-Err-clause-decided c file text is = rw c.saying.ensures (text_without_memory _ _)
-
-pub returns-in-Err-clause-printable : goal.returns-in-Err-clause-printable
-returns-in-Err-clause-printable c = rw c.saying.ensures tt
+returns-in-Err-clause-decided c file s = rw c.saying.ensures (all_without_memory _ _ _)

@@ -18,3 +18,6 @@ returns-in-ReadFault-clause-drew g c = rw c.in-ReadFault.is c.add_about-in-ReadF
 
 pub returns-in-Broken-clause-drew : goal.returns-in-Broken-clause-drew
 returns-in-Broken-clause-drew g c = rw c.in-Broken.is c.add_broken.ensures.drew
+
+pub returns-in-BadLine-clause-drew : goal.returns-in-BadLine-clause-drew
+returns-in-BadLine-clause-drew g c = rw c.in-BadLine.is c.add_bad_line.ensures.drew
