@@ -16,6 +16,8 @@ A row for each crate, by role and in the order of the passes. `tools/crates` wri
 - **Stands on** leaves out what those crates stand on by themselves; crates.txt has all.
 - **Public calls with a promise** have the names of their clauses in brackets. A clause without a name isn't told, and neither is a call
   without clauses. [promises.md](promises.md) says what the clauses promise, in words.
+- **Prefixes** tell the role. xw: base; xc: front and meaning; xl: lowering; xs: machine; xr: what joins them; xf: time; xt: tests. xcsim is
+  the program, and xr_listed stands under tests: it reads listings for them.
 """
 
 FUNCTION = re.compile(r"\s*(pub )?(?:const )?(?:unsafe )?fn (\w+)")
