@@ -2,8 +2,7 @@
 
 ghost use Rattle.std.specs.Prelude.{◌≤◌, length};
 
-use crate::expressions::expression;
-use crate::statements::NAME;
+use crate::expressions::{NAME, expression};
 use crate::trouble::Trouble;
 use std::alloc::Global;
 use xl_expr::{Plan, emit_expr};

@@ -14,6 +14,9 @@ use xw_words::{List, Pos};
 /// The place of what is written without one.
 const AT: Pos = Pos { line: 7, col: 9 };
 
+/// The place of tests, jumps and transfers.
+pub const NAME: Pos = Pos { line: 3, col: 4 };
+
 /// The expression that a text is.
 pub fn expression(alloc: Global, text: &str) -> Result<Kx, Trouble>
     ensures nodes { IfOk result (λ x. nodes (expression_of x) ≤ 1000) }

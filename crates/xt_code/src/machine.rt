@@ -4,7 +4,7 @@ ghost use Rattle.std.specs.Prelude.{◌≡◌, ℕ, ◌+◌, ◌<◌, ◌≤◌,
 ghost use Rattle.xc_kernel.specs.Kernels.{expression_of};
 ghost use Rattle.xl_expr.specs.Measures.{depth, nodes};
 ghost use Rattle.xl_expr.specs.Targets.{AreAimed};
-ghost use Rattle.xs_instr.specs.Valid.{IsGoodInstr};
+ghost use Rattle.xs_instr.specs.Valid.{IsGoodInstr, IsGoodStim};
 
 use crate::trouble::Trouble;
 use std::alloc::Global;
@@ -15,8 +15,37 @@ use xs_core::{Core, Did};
 use xs_instr::{Code, CoreImage, Dir, Emitter, Image, Instr, PortDecl, Record, Reg, Stim, Trap};
 use xw_words::{List, Memory, Pos};
 
-/// Port 32A, by its identifier's place among all ports.
+/// The places of identifiers among all ports'.
+const PORT_1A: u8 = 0;
+
+const PORT_1B: u8 = 1;
+
+const PORT_16A: u8 = 26;
+
 const PORT_32A: u8 = 28;
+
+/// The ports of the core.
+const PORTS: [PortDecl; 4] = [
+    PortDecl {
+        port: PORT_32A,
+        dir: Dir::Both,
+    },
+    PortDecl {
+        port: PORT_1A,
+        dir: Dir::Out,
+    },
+    PortDecl {
+        port: PORT_16A,
+        dir: Dir::Out,
+    },
+    PortDecl {
+        port: PORT_1B,
+        dir: Dir::In,
+    },
+];
+
+/// How many timers the core has.
+const TIMERS: u32 = 2;
 
 /// The words of the core.
 const WORDS: u32 = 1024;
@@ -95,28 +124,38 @@ pub fn finished(e: Emitter) -> Result<Code, Trouble>
     Ok(e.finish())
 }
 
-/// How a run of this code ends, on a core with port 32A.
+/// How a run of this code ends, on core 0 without a stimulus.
 pub fn run(alloc: Global, code: Code) -> Result<End, Trouble> {
-    let image = image_of(alloc, code)?;
-    let end = end_of_image(alloc, &image);
-    drop(image);
-    end
-}
-
-/// How the run of an image's core 0 ends.
-fn end_of_image(alloc: Global, image: &Image) -> Result<End, Trouble> {
-    if !is_valid(image) {
-        return Err(Trouble::Image);
-    }
     let stim = Stim {
         lines: List::new(alloc),
     };
-    let core = Core::new(alloc, image, 0, &stim);
+    let core = core_of(alloc, code, &stim);
     drop(stim);
     let mut core = core?;
     let end = end_of_run(&mut core);
     drop(core);
     Ok(end?)
+}
+
+/// Core 0 as it starts with this code, under a stimulus.
+pub fn core_of(alloc: Global, code: Code, stim: &Stim) -> Result<Core, Trouble>
+    requires stim { IsGoodStim stim.now }
+{
+    let image = image_of(alloc, code)?;
+    let core = first_core(alloc, &image, stim);
+    drop(image);
+    core
+}
+
+/// Core 0 of an image as it starts.
+fn first_core(alloc: Global, image: &Image, stim: &Stim) -> Result<Core, Trouble>
+    requires stim { IsGoodStim stim.now }
+{
+    if !is_valid(image) {
+        return Err(Trouble::Image);
+    }
+    let core = Core::new(alloc, image, 0, stim)?;
+    Ok(core)
 }
 
 /// How a core's run ends. A tick passes at each pause.
@@ -136,7 +175,8 @@ fn end_of_run(core: &mut Core) -> Result<End, Memory> {
     Ok(End::Stopped)
 }
 
-fn wait(core: &mut Core) {
+/// A tick, where the clock can go on.
+pub fn wait(core: &mut Core) {
     if core.clock() < u32::MAX {
         core.tick();
     }
@@ -153,18 +193,22 @@ fn image_of(alloc: Global, code: Code) -> Result<Image, Memory> {
     })
 }
 
+/// The ports of the core, in their order.
+fn ports_of(alloc: Global) -> Result<List<PortDecl>, Memory> {
+    match Vec::from_array(alloc, PORTS) {
+        Ok(ports) => Ok(List::from_vec(ports)),
+        Err(_) => Err(Memory),
+    }
+}
+
 fn one_core(alloc: Global, code: Code) -> Result<CoreImage, Memory> {
-    let mut ports = List::new(alloc);
-    ports.push(PortDecl {
-        port: PORT_32A,
-        dir: Dir::Both,
-    })?;
+    let ports = ports_of(alloc)?;
     let mut roots = List::new(alloc);
     roots.push(0)?;
     Ok(CoreImage {
         number: 0,
         words: WORDS,
-        timers: 0,
+        timers: TIMERS,
         ends: 0,
         ports,
         roots,

@@ -6,14 +6,17 @@ mod counted;
 mod expressions;
 mod machine;
 mod places;
+mod rounds;
 mod shown;
 mod sizes;
 mod statements;
+mod transfers;
 mod trouble;
 
 use counted::count_of;
 use machine::run;
 use places::plan;
+use rounds::{stamped_line, trace_of};
 use shown::ShownEnd;
 use statements::code_of;
 use std::alloc::Global;
@@ -30,15 +33,18 @@ enum File {
     Operators,
     /// Other code.
     Code,
+    /// Transfers in lockstep.
+    Transfers,
 }
 
 impl File {
     fn file(self) -> CaseFile {
-        let name = match self {
-            File::Operators => "operators.txt",
-            File::Code => "code.txt",
+        let (name, gap) = match self {
+            File::Operators => ("operators.txt", "\n"),
+            File::Code => ("code.txt", "\n"),
+            File::Transfers => ("transfers.txt", "\n\n"),
         };
-        CaseFile { name, gap: "\n" }
+        CaseFile { name, gap }
     }
 }
 
@@ -48,6 +54,7 @@ impl Cases for File {
         let tried = match *self {
             File::Operators => are_operands_right(alloc, out, case),
             File::Code => is_right(alloc, out, case),
+            File::Transfers => is_trace_right(alloc, out, case),
         };
         match tried {
             Ok(holds) => holds,
@@ -65,7 +72,7 @@ fn main(rt: HostRuntime) -> ExitCode {
     let mut sink = StdSink::new(rt.stdout());
     let mut out = Out::new(&mut sink);
     let mut all_hold = true;
-    for file in [File::Operators, File::Code] {
+    for file in [File::Operators, File::Code, File::Transfers] {
         let holds = report(rt.alloc(), &mut shelf, &mut out, file.file(), &file);
         all_hold = all_hold && holds;
     }
@@ -102,6 +109,21 @@ fn is_right<O: Sink>(alloc: Global, out: &mut Out<'_, O>, line: &str) -> Result<
     let is_right = came.as_str() == wanted;
     if !is_right {
         tell(out, line, came.as_str());
+    }
+    Ok(is_right)
+}
+
+/// Whether a case's run has the records and the end word that it wants. What comes else is told.
+fn is_trace_right<O: Sink>(
+    alloc: Global,
+    out: &mut Out<'_, O>,
+    case: &str,
+) -> Result<bool, Trouble> {
+    let timed = stamped_line(alloc, case)?;
+    let trace = trace_of(alloc, &timed)?;
+    let is_right = trace.as_str() == timed.wanted.as_str();
+    if !is_right {
+        tell(out, case, trace.as_str());
     }
     Ok(is_right)
 }

@@ -5,7 +5,7 @@ use xl_expr::{Plan, ResAt, VarAt, VarPlan};
 use xw_words::List;
 
 /// What stands at dp + 4n, by n.
-pub const MEMORY: [(u32, u32); 16] = [
+pub const MEMORY: [(u32, u32); 17] = [
     (0, 7),
     (1, 10),
     (2, 11),
@@ -15,6 +15,7 @@ pub const MEMORY: [(u32, u32); 16] = [
     (6, 120),
     (7, 124),
     (8, 0xffff_ff00),
+    (9, 0xffff_ff01),
     (20, 30),
     (21, 31),
     (22, 32),
@@ -48,14 +49,23 @@ const VARIABLES: [Option<VarPlan>; 5] = [
     }),
 ];
 
-/// The same port, by its identifier and by a word that is 256 below it.
-const PORTS: [Option<ResAt>; 2] = [Some(ResAt::Fixed(0)), Some(ResAt::Held(8, 1))];
+/// Port 32A, by its identifier and by a word that is 256 below it; then ports 1A, 16A and 1B.
+const PORTS: [Option<ResAt>; 5] = [
+    Some(ResAt::Fixed(0)),
+    Some(ResAt::Held(8, 1)),
+    Some(ResAt::Fixed(0x100)),
+    Some(ResAt::Fixed(0x200)),
+    Some(ResAt::Fixed(0x300)),
+];
+
+/// A timer by its identifier, another one by a word that is 512 below it.
+const TIMERS: [Option<ResAt>; 2] = [Some(ResAt::Fixed(1)), Some(ResAt::Held(9, 2))];
 
 pub fn plan(alloc: Global) -> Result<Plan, AllocError> {
     Ok(Plan {
         vars: List::from_vec(Vec::from_array(alloc, VARIABLES)?),
         ports: List::from_vec(Vec::from_array(alloc, PORTS)?),
-        timers: List::new(alloc),
+        timers: List::from_vec(Vec::from_array(alloc, TIMERS)?),
         ends: List::new(alloc),
         channels: List::new(alloc),
         first_stack: 0,

@@ -1,31 +1,27 @@
-// Steps of code as the cases write them: assignments, variables that become 0, outputs, tests and jumps.
+// Steps of code as the cases write them: assignments, variables that become 0, transfers, tests and jumps.
 
 ghost use Rattle.std.specs.Bool.{OnTrue};
-ghost use Rattle.std.specs.Prelude.{◌≤◌, length, IfOk, OnOk};
-ghost use Rattle.xc_kernel.specs.Kernels.{expression_of, output_of as plain_output, place_of};
+ghost use Rattle.std.specs.Prelude.{◌≤◌, length, OnOk};
+ghost use Rattle.xc_kernel.specs.Kernels.{expression_of, place_of};
 ghost use Rattle.xl_expr.specs.Measures.{depth, depth_at, nodes, nodes_at};
 ghost use Rattle.xl_expr.specs.Plans.{var_in};
 ghost use Rattle.xl_expr.specs.Targets.{AreAimed};
 ghost use Rattle.xl_flow.specs.Zeros.{room_of};
-ghost use Rattle.xl_port.specs.Outputs.{output_depth, output_nodes};
 
-use crate::expressions::{expression, number, place};
+use crate::expressions::{NAME, expression, number, place};
 use crate::machine::{add, add_expression, begun, finished};
 use crate::places::MEMORY;
+use crate::transfers::{add_port_in, add_port_out, add_timer_in};
 use crate::trouble::Trouble;
 use std::alloc::Global;
-use xc_kernel::{KOut, KRes, Kx, Place};
+use xc_kernel::{Kx, Place};
 use xl_expr::{Plan, VarAt};
 use xl_flow::{emit_back, emit_jump, emit_set, emit_test, emit_zero};
-use xl_port::emit_port_out;
 use xs_instr::{Code, Emitter, Instr, Reg};
 use xw_words::{Memory, Pos};
 
 /// Behind how much code a step may stand.
 const MOST_BEFORE: u32 = 2000;
-
-/// The place of tests, jumps and outputs.
-pub const NAME: Pos = Pos { line: 3, col: 4 };
 
 /// The code of some steps, behind that of the memory's words.
 pub fn code_of(alloc: Global, plan: &Plan, steps: &str) -> Result<Code, Trouble> {
@@ -49,7 +45,9 @@ fn add_step(alloc: Global, e: &mut Emitter, plan: &Plan, step: &str) -> Result<(
         "give" => add_give(alloc, e, plan, rest),
         "set" => add_set(alloc, e, plan, rest),
         "zero" => add_zero(e, plan, rest),
-        "port" => add_output(e, plan, rest),
+        "out" => add_port_out(alloc, e, plan, rest),
+        "in" => add_port_in(alloc, e, plan, rest),
+        "timer" => add_timer_in(alloc, e, plan, rest),
         "while" => add_loop(alloc, e, plan, rest),
         "pass" => add_pass(alloc, e, plan, rest),
         _ => Err(Trouble::Line),
@@ -108,48 +106,6 @@ fn is_short(plan: &Plan, v: u32) -> bool
             VarAt::Near(_) | VarAt::Far(_) => found.words <= 40,
             VarAt::Through(_) => true,
         },
-    }
-}
-
-/// `PORT VALUE`, or `PORT VALUE TIME`
-fn add_output(e: &mut Emitter, plan: &Plan, text: &str) -> Result<(), Trouble>
-    requires few { length e.old ≤ 2000 }
-    requires aimed { AreAimed 0 e.old }
-    ensures aimed { OnOk result (AreAimed 0 e.new) }
-{
-    let output = output_of(text)?;
-    let added = emit_port_out(e, plan, &output);
-    drop(output);
-    Ok(added?)
-}
-
-fn output_of(text: &str) -> Result<KOut, Trouble>
-    ensures nodes { IfOk result (λ output. output_nodes (plain_output output) ≤ 2) }
-    ensures depth { IfOk result (λ output. output_depth (plain_output output) ≤ 1) }
-{
-    let (port, rest) = text.split_once(' ').ok_or(Trouble::Line)?;
-    let port = number(port)?;
-    let (value, time) = match rest.split_once(' ') {
-        None => (rest, None),
-        Some((value, time)) => (value, Some(number(time)?)),
-    };
-    Ok(output(port, time, number(value)?))
-}
-
-#[tactic(auto, using(xc_kernel::proofs::Forms::forms))]
-fn output(port: u32, time: Option<u32>, value: u32) -> KOut
-    ensures nodes { output_nodes (plain_output result) ≤ 2 }
-    ensures depth { output_depth (plain_output result) ≤ 1 }
-{
-    KOut {
-        res: KRes::Port(port),
-        time: match time {
-            None => None,
-            Some(time) => Some(Kx::Num(time)),
-        },
-        value: Kx::Num(value),
-        stamp: None,
-        pos: NAME,
     }
 }
 

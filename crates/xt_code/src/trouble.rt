@@ -1,6 +1,7 @@
 // Why something can't be tried.
 
 use std::alloc::{AllocError, AllocFailed};
+use xr_stim::StimErr;
 use xw_words::Memory;
 
 /// Why a case can't be tried.
@@ -14,6 +15,8 @@ pub enum Trouble {
     Long,
     /// No image has this code.
     Image,
+    /// The stimulus breaks a rule.
+    Stimulus,
     Memory,
 }
 
@@ -25,6 +28,7 @@ impl Trouble {
             Trouble::Large => "an expression that is too large",
             Trouble::Long => "too much code",
             Trouble::Image => "code that no image has",
+            Trouble::Stimulus => "a stimulus that breaks a rule",
             Trouble::Memory => "out of memory",
         }
     }
@@ -45,5 +49,14 @@ impl From<AllocError> for Trouble {
 impl<T: Drop> From<AllocFailed<T>> for Trouble {
     fn from(_: AllocFailed<T>) -> Trouble {
         Trouble::Memory
+    }
+}
+
+impl From<StimErr> for Trouble {
+    fn from(error: StimErr) -> Trouble {
+        match error {
+            StimErr::Line { .. } => Trouble::Stimulus,
+            StimErr::Memory => Trouble::Memory,
+        }
     }
 }
