@@ -24,7 +24,8 @@ use Rattle.xl_expr.specs.declared.direct_operand.Direct.{Direct}
 use Rattle.xl_expr.specs.Works.{IsLaid, Gives, Outcome, Evaluates, steps_before, same_reg, is_scratch}
 use Rattle.xl_expr.proofs.Lists.{stand_front, stand_back, room_kept}
 use Rattle.xl_expr.proofs.Ways.{own, Agree, way_on, Fits, way_leads, fails_errs}
-use Rattle.xl_expr.proofs.Runs.{Runs, Ready, by_quiet, IsSaved}
+use Rattle.xl_expr.specs.Above.{IsSaved}
+use Rattle.xl_expr.proofs.Runs.{Runs, Ready, by_quiet}
 use Rattle.xl_expr.proofs.Registers.{reg_same, reg_other}
 use Rattle.xl_expr.proofs.Pieces.{brings}
 use Rattle.xl_expr.proofs.Operations.{HasDirect}
@@ -86,7 +87,7 @@ module _ (home : Home) (relied : ℕ → Bool) (s t : ℕ) (thread : Thread) (a 
   last_there : (words' : List ℕ) → length words' ≡ length a.words → (b : CoreState) → Agree my_code relied (IsApart s) words' b.words → s + temporary ≤ length b.words
   last_there words' size b agree = let w = room.within in room_kept relied s room.relied_on words' b.words (omega arith) agree.by
 
-  gives_by : (to : Reg) (pc' v : ℕ) (regs' : Regs) (words' : List ℕ) → length words' ≡ length a.words → reg_get regs' to ≡ v → ((r : Reg) → is_scratch r ≡ false → same_reg r to ≡ false → reg_get regs' r ≡ reg_get thread.regs r) → ((w : ℕ) → IsApart s w → slice_get words' w ≡ slice_get a.words w) → (b : CoreState) → Fits my_code relied (IsApart s) t thread (own pc' regs' words') b → Gives relied s t thread a.words to pc' v b
+  pub gives_by : (to : Reg) (pc' v : ℕ) (regs' : Regs) (words' : List ℕ) → length words' ≡ length a.words → reg_get regs' to ≡ v → ((r : Reg) → is_scratch r ≡ false → same_reg r to ≡ false → reg_get regs' r ≡ reg_get thread.regs r) → ((w : ℕ) → IsApart s w → slice_get words' w ≡ slice_get a.words w) → (b : CoreState) → Fits my_code relied (IsApart s) t thread (own pc' regs' words') b → Gives relied s t thread a.words to pc' v b
   gives_by to pc' v regs' words' size value others same b f = record { regs = regs'; within = last_there words' size b f.words; here = f.here; value = value; others = others; words = λ w r h. f.words.by w r ∙ same w h }
 
   abbrev Reaches : Reg → ℕ → ℕ → Value → Type 0

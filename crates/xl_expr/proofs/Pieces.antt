@@ -25,7 +25,8 @@ use Rattle.xl_expr.specs.declared.direct_operand.Direct.{Direct}
 use Rattle.xl_expr.specs.declared.direct_operand.Direct.TheVariants.{Number, Word}
 use Rattle.xl_expr.proofs.Lists.{get_set_same, get_set_other, stand_front, stand_back}
 use Rattle.xl_expr.proofs.Ways.{own, IsPlain, Sure}
-use Rattle.xl_expr.proofs.Runs.{Runs, Keeps, Ready, IsSaved, ready_kept, keeps_all, keeps_r11, stopped, looser, one_on, run_on, by_quiet, by_save, by_restore, word_there}
+use Rattle.xl_expr.specs.Above.{IsSaved}
+use Rattle.xl_expr.proofs.Runs.{Runs, Keeps, Ready, ready_kept, keeps_all, keeps_r11, stopped, looser, one_on, run_on, by_quiet, by_save, by_restore, word_there}
 use Rattle.xl_expr.proofs.Tails.{tail_runs, kept_runs, straight_runs, added_runs, truth_tail, truth_not, two_few, direct_few}
 
 -- an error, or what is made of the word

@@ -1,5 +1,5 @@
 -- Runs of code by what a thread has: single steps, and how runs follow one another.
-use Rattle.std.proofs.Common.{◌≡◌, ℕ, ◌+◌, ◌*◌, ◌/◌, ◌%◌, ◌<◌, ◌≤◌, ◌⊎◌, inl, inr, Bool, true, false, List, length, Some, refl, ap, ◌∙◌, subst, get_or, arith}
+use Rattle.std.proofs.Common.{◌≡◌, ℕ, ◌+◌, ◌*◌, ◌/◌, ◌%◌, ◌<◌, ◌≤◌, inl, inr, Bool, true, false, List, length, Some, refl, ap, ◌∙◌, subst, get_or, arith}
 use Rattle.std.specs.Prelude.{slice_get, slice_set, nat_eq}
 use Rattle.std.proofs.lemmas.Option.{slice_get-get_or}
 use Rattle.xw_words.specs.declared.pos.Pos.{Pos}
@@ -15,6 +15,7 @@ use Rattle.xs_instr.specs.Registers.{reg_get, reg_set}
 use Rattle.xs_instr.specs.Rows.{Local, local_row, loads, stores, stores_at}
 use Rattle.xs_instr.specs.OwnSteps.{IsApart, IsWord, temporary}
 use Rattle.xc_kernel.specs.Values.{Value, word, error, ErrorKind}
+use Rattle.xl_expr.specs.Above.{IsSaved}
 use Rattle.xl_expr.specs.Works.{is_scratch}
 use Rattle.xl_expr.proofs.Lists.{get_set_other, get_set_both, word_by_same}
 use Rattle.xl_expr.proofs.Ways.{own, IsPlain, Agree, Sure, Fails, Way, way_on}
@@ -55,10 +56,6 @@ r11_alone regs v Cp h = refl
 r11_alone regs v Dp h = refl
 r11_alone regs v Sp h = refl
 r11_alone regs v Lr h = refl
-
--- below the k-th temporary word, or above all of them
-abbrev pub IsSaved : ℕ → ℕ → ℕ → Type 0
-IsSaved s k w = (w < s + k) ⊎ (s + temporary ≤ w)
 
 -- what code at depth k leaves as it was
 pub record Keeps (s k : ℕ) (regs : Regs) (words : List ℕ) (regs' : Regs) (words' : List ℕ) : Type 0 where

@@ -30,7 +30,8 @@ use Rattle.xl_expr.specs.Stores.{write, held_write, indexed_write, word_write, w
 use Rattle.xl_expr.specs.Works.{WithIndex, StandFrom, WordStands, ArrayStands, WordIsLaid, ElementIsLaid, IsLaid, PlaceIsLaid, is_scratch, same_reg}
 use Rattle.xl_expr.proofs.Lists.{get_set_same, get_set_other, stand_front, stand_back}
 use Rattle.xl_expr.proofs.Ways.{own, Agree, IsPlain, Sure, Way, way_on}
-use Rattle.xl_expr.proofs.Runs.{Runs, Stops, Keeps, Ready, IsSaved, ready_kept, keeps_r0, keeps_r11, stopped, by_quiet, by_save, by_restore, word_there}
+use Rattle.xl_expr.specs.Above.{IsSaved}
+use Rattle.xl_expr.proofs.Runs.{Runs, Stops, Keeps, Ready, ready_kept, keeps_r0, keeps_r11, stopped, by_quiet, by_save, by_restore, word_there}
 use Rattle.xl_expr.proofs.Registers.{reg_other}
 use Rattle.xl_expr.proofs.Pieces.{bound, Means, value_on}
 use Rattle.xl_expr.proofs.Places.{array_of, by_near, near_address, index_tested}

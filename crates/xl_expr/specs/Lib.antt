@@ -2,6 +2,7 @@ pub mod Plans
 pub mod Measures
 pub mod Code
 pub mod Works
+pub mod Above
 pub mod Operands
 pub mod Parts
 pub mod Stores

@@ -6,6 +6,7 @@ ghost use Rattle.xl_expr.specs.Code.{one_tail, negated, after_main, index_if, di
 ghost use Rattle.xs_instr.specs.Adds.{Adds};
 ghost use Rattle.xs_instr.specs.Extends.{Extends};
 ghost use Rattle.xl_expr.specs.Targets.{AreAimed};
+ghost use Rattle.xl_expr.specs.Above.{EvaluatesAbove};
 ghost use Rattle.xl_expr.specs.Works.{Evaluates};
 ghost use Rattle.xc_kernel.specs.Meant.{operator_meant};
 ghost use Rattle.xl_expr.specs.Measures.{nodes, nodes_of, nodes_at, depth, depth_of, depth_at};
@@ -57,6 +58,27 @@ fn emit_to(e: &mut Emitter, plan: &Plan, x: &Kx, to: Reg) -> Result<(), Memory>
             Ok(())
         }
     }
+}
+
+/// The code that gives an expression's word in r0, and leaves the thread's temporary words below number `k`. `evaluates` says what it
+/// does: the same as that of `emit_expr`, within 7 steps for each node, and those words are as they were once the word is there.
+///
+/// The one error is want of memory; the emitter then holds what it held, and perhaps further instructions behind it.
+pub fn emit_above(e: &mut Emitter, plan: &Plan, x: &Kx, k: u32) -> Result<(), Memory>
+    requires room { length e.old + 8 * nodes (expression_of x.now) < 2 ^ 32 }
+    requires shallow { depth (expression_of x.now) ≤ 400 }
+    requires inside { k ≤ 112 }
+    ensures size { OnOk result (length e.new ≤ length e.old + 7 * nodes (expression_of x.now)) }
+    ensures code { OnOk result (e.new
+        ≡ e.old ++ expression_code plan.now.vars (expression_of x.now) k (length e.old) (last_pos e.old)) }
+    ensures evaluates { OnOk result
+        (Adds e.old e.new (EvaluatesAbove plan.now.vars (expression_of x.now) k (length e.old))) }
+    ensures aimed { OnOk result (Adds e.old e.new (AreAimed (length e.old))) }
+    ensures refused { OnErr result (Extends e.old e.new) }
+{
+    let last = e.pos();
+    emit_at(e, plan, x, k, last)?;
+    Ok(())
 }
 
 /// Moves r0 to a register.

@@ -16,6 +16,7 @@ use xw_words::{Memory, Pos};
 pub fn emit_identifier(e: &mut Emitter, place: ResAt, pos: Pos) -> Result<(), Memory>
     requires { length e.old + 2 < 2 ^ 32 }
     ensures size { OnOk result (length e.new ≤ length e.old + 2) }
+    ensures code { OnOk result (e.new ≡ e.old ++ at_pos pos (identifier_instrs place)) }
     ensures identifies { OnOk result (Adds e.old e.new (Identifies place (length e.old))) }
     ensures aimed { OnOk result (Adds e.old e.new (AreAimed (length e.old))) }
     ensures refused { OnErr result (Extends e.old e.new) }
