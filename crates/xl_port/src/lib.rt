@@ -13,4 +13,6 @@ mod timer_input;
 
 pub use input::emit_port_in;
 pub use output::emit_port_out;
+pub use setting::emit_with_name;
+pub use stamp::emit_stamp;
 pub use timer_input::emit_timer_in;
