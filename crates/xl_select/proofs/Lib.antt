@@ -1,0 +1,14 @@
+pub mod Along
+pub mod AlongCases
+pub mod Opened
+pub mod Aimed
+pub mod Holes
+pub mod Watching
+pub mod Arming
+pub mod Moves
+pub mod EventRows
+pub mod FlagRows
+pub mod SettingRows
+pub mod Values
+pub mod LatchRows
+pub mod Entering

@@ -1,0 +1,5 @@
+pub mod Armed
+pub mod OpeningCode
+pub mod Holes
+pub mod Opening
+pub mod Entry
