@@ -1,5 +1,9 @@
--- What is always so: the law of credits, and the law of questions that have arrived.
+-- What is always so: the law of credits, within a core and over links, and the law of questions that have arrived.
 pub mod Balances
 pub mod Fresh
 pub mod FreshRows
 pub mod Ready
+pub mod ReadyEnds
+pub mod Deliveries
+pub mod CreditsOverLinks
+pub mod StreamReady

@@ -7,4 +7,4 @@
 
 mod law;
 
-pub use law::{channels_begin, none_ready};
+pub use law::{channels_begin, credits_over_links, ends_agree, none_ready};

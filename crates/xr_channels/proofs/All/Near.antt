@@ -42,7 +42,7 @@ pub record IsNear (pairs : List Pair) (cores : List CoreState) (k : ℕ) (p : Pa
   pub at_end : slice_get core.ends (end_of_side p side).end ≡ Some end
 
 -- four empty links out of each of four cores
-no_square : Square no_links
+pub no_square : Square no_links
 no_square = record { rows = λ a lt. (replicate_4, row a lt, columns) }
   where
     replicate_4 : List (List Item)

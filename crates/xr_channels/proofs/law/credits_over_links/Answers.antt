@@ -1,0 +1,5 @@
+use Rattle.xr_channels.proofs.law.credits_over_links.Goals as goal
+use Rattle.xr_channels.proofs.Laws.CreditsOverLinks.{credits_kept}
+
+pub returns-clause-by_deliveries : goal.returns-clause-by_deliveries
+returns-clause-by_deliveries c = credits_kept
