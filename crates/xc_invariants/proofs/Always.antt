@@ -34,6 +34,8 @@ use Rattle.xc_invariants.proofs.Trees.{above_waits, forest_kept}
 use Rattle.xc_invariants.proofs.Apart.{apart_kept, apart_begins, pars_begin, kernels_begin}
 use Rattle.xc_invariants.proofs.Sides.{long_kept, sided_kept, other_kept}
 use Rattle.xc_invariants.proofs.Begins.{forest_begins, long_begins, sided_begins, other_begins}
+use Rattle.xc_invariants.specs.OnSides.{side_core}
+use Rattle.xc_invariants.proofs.OnSides.{on_sides_begin, on_sides_kept}
 use Rattle.xc_invariants.proofs.Threads.{cores_begin, cores_kept, branches_fit_in, budgets_fit_in}
 use Rattle.xc_invariants.proofs.Needs.{has_what_it_takes, needs_kept, needs_stay, needs_begin, threads_suffice}
 use Rattle.xc_invariants.proofs.Placed.{among_append, placed_kept, placed_begins, alone_kept, alone_begins}
@@ -55,6 +57,7 @@ laws_begin K k = record {
   long = long_begins K;
   sided = λ c lt. sided_begins K k.sided c lt;
   other_sides = λ c lt. other_begins K k.sided c lt;
+  on_sides = λ c lt. on_sides_begin c K k.sided lt;
   budget = needs_begin K;
   cores = cores_begin K;
   placed = placed_begins AnyBlock AnyInside K k.placed;
@@ -71,6 +74,7 @@ laws_step K s x y m h = record {
   long = long_kept K s x (length K.channels) h.long m;
   sided = λ c lt. sided_kept K s x (length K.channels) c lt h.long (h.sided c lt) m;
   other_sides = λ c lt. other_kept K s x (length K.channels) c lt h.long h.kernels (h.sided c lt) (length K.roots) h.forest (h.other_sides c lt) m;
+  on_sides = λ c lt. on_sides_kept (side_core K c) c K s x h lt (h.on_sides c lt) m;
   budget = needs_kept K.roots K s x h.forest h.budget m;
   cores = cores_kept K.roots K s x h.forest h.cores m;
   placed = placed_kept AnyBlock AnyInside K s x h.placed m;

@@ -62,7 +62,7 @@ module _ (K : kernel.Kernel) where
   }
 
   module _ (k : IsSided K) (c : ℕ) (lt : c < length K.channels) where
-    root_stands : (n : ℕ) (b : Branch) (e : slice_get start n ≡ Some b) → Stands c codes n (start_at K n b e).root.body None (slice_index_or b.sides c None)
+    pub root_stands : (n : ℕ) (b : Branch) (e : slice_get start n ≡ Some b) → Stands c codes n (start_at K n b e).root.body None (slice_index_or b.sides c None)
     root_stands n b e =
         let r = start_at K n b e in
         let l = no_sides_long K.channels in
@@ -73,7 +73,7 @@ module _ (K : kernel.Kernel) where
               ∙ (λ i. side_in ((let z : 0 + c ≡ c = omega arith in z) i) (front_of [] codes n) r.root.body (next_of codes n) (no_side_at K.channels c i));
         }
 
-    users_of : (rs : List kernel.Root) → count c (codes_of_roots (map kernel_root rs)) ≡ users c (branches_of rs)
+    pub users_of : (rs : List kernel.Root) → count c (codes_of_roots (map kernel_root rs)) ≡ users c (branches_of rs)
     users_of [] = refl
     users_of (r ∷ rs) = let h = users_of rs in ap (λ n. once (by_statements (channel c) r.body) + n) h
 

@@ -42,7 +42,7 @@ module _ (c : ℕ) where
   some_count a rest (inr e) (inl h) = inl (ap₂ Rattle.std.proofs.Common.◌||◌ e h.0, let o = ap once e in let z = h.1 in omega arith)
   some_count a rest (inr e) (inr h) = inr (ap₂ Rattle.std.proofs.Common.◌||◌ e h.0, let z = h.1 in omega arith)
 
-  uses_count : (rest : List kernel.Statements) → ((one_uses c rest ≡ false) × (count rest ≡ 0)) ⊎ ((one_uses c rest ≡ true) × (0 < count rest))
+  pub uses_count : (rest : List kernel.Statements) → ((one_uses c rest ≡ false) × (count rest ≡ 0)) ⊎ ((one_uses c rest ≡ true) × (0 < count rest))
   uses_count [] = inl (refl, refl)
   uses_count (a ∷ rest) = some_count a rest (true_or_false (by_statements (channel c) a)) (uses_count rest)
 
@@ -52,12 +52,12 @@ module _ (c : ℕ) where
   some_uses : (rest : List kernel.Statements) → 0 < count rest → one_uses c rest ≡ true
   some_uses rest e = ⊎_elim (λ h. let l = h.1 in absurd (omega arith)) (λ h. h.0) (uses_count rest)
 
-  counted : (before cs : List kernel.Statements) (j : ℕ) (a : kernel.Statements) → slice_get cs j ≡ Some a → count (front_of before cs j) + (once (by_statements (channel c) a) + count (next_of cs j)) ≡ count before + count cs
+  pub counted : (before cs : List kernel.Statements) (j : ℕ) (a : kernel.Statements) → slice_get cs j ≡ Some a → count (front_of before cs j) + (once (by_statements (channel c) a) + count (next_of cs j)) ≡ count before + count cs
   counted before [] j a e = none_given e
   counted before (b ∷ cs) zero a e = let o = ap (λ d. once (by_statements (channel c) d)) (some_given e) in omega arith
   counted before (b ∷ cs) (suc j) a e = let h = counted (b ∷ before) cs j a e in omega arith
 
-  front_least : (before cs : List kernel.Statements) (j : ℕ) → count before ≤ count (front_of before cs j)
+  pub front_least : (before cs : List kernel.Statements) (j : ℕ) → count before ≤ count (front_of before cs j)
   front_least before cs zero = omega arith
   front_least before [] (suc j) = omega arith
   front_least before (b ∷ cs) (suc j) = let h = front_least (b ∷ before) cs j in omega arith

@@ -30,6 +30,7 @@ use Rattle.xc_invariants.specs.Every.{EveryItem}
 use Rattle.xc_invariants.specs.Each.{EachItem, EachBranch}
 use Rattle.xc_invariants.specs.Tree.{Above, IsWaiting, IsForest, Unrelated}
 use Rattle.xc_invariants.specs.Rules.{AnyThing, AnyPar, AnyTransaction, AllApart, AreApart, IsApart}
+use Rattle.xc_invariants.specs.OnSides.{side_core, OnItsSide}
 use Rattle.xc_invariants.specs.Sided.{SidedAt, Differ, OtherSides, IsSided}
 use Rattle.xc_invariants.specs.Needs.{Budgeted, HasBudget, KeepsBudget, takes, taken_on, needed_on, AreOnce, IsIn, TakesOn, total_of, takes_at, RootCores}
 use Rattle.xc_invariants.specs.Placed.{AnyBlock, AnyInside, IsDistinct, AreUnused, marks_of, ends_of, open_of, EndsWell, EachPlaced, EachAlone, IsPlaced}
@@ -68,6 +69,7 @@ pub record Lawful (K : kernel.Kernel) (x : World) : Type 0 where
   pub long : EachLong (length K.channels) x.branches
   pub sided : (c : ℕ) → c < length K.channels → EachItem (SidedAt c) x.branches
   pub other_sides : (c : ℕ) → c < length K.channels → Unrelated (OtherSides c) x.branches
+  pub on_sides : (c : ℕ) → c < length K.channels → EachBranch (OnItsSide (side_core K c) c) x.branches
   pub budget : HasBudget K.roots x.branches
   pub cores : RootCores K.roots x.branches
   pub placed : EachPlaced AnyBlock AnyInside x.branches
