@@ -19,3 +19,4 @@ pub mod TransferBegins
 pub mod TransferErrs
 pub mod OwnTransfers
 pub mod Advances
+pub mod SelectEnds

@@ -18,6 +18,7 @@ pub mod Inputs
 pub mod OnResources
 pub mod ResourceTurns
 pub mod Timings
+pub mod InputsLeft
 pub mod PortInputs
 pub mod TimerInputs
 pub mod Stores
@@ -25,3 +26,8 @@ pub mod Stamps
 pub mod Par
 pub mod ParOpens
 pub mod ParCloses
+pub mod Selects
+pub mod FixedPorts
+pub mod FixedTimers
+pub mod Fixed
+pub mod SelectTurns

@@ -11,3 +11,4 @@ pub mod Events
 pub mod Stands
 pub mod Variables
 pub mod Phases
+pub mod Selects

@@ -9,7 +9,8 @@ use Rattle.xc_kernel.specs.declared.statement.KRes.{KRes}
 use Rattle.xc_kernel.specs.declared.statement.KRes.TheVariants.{Port, Timer, Chan}
 use Rattle.xc_kernel.specs.Plain as kernel
 use Rattle.xc_meaning.specs.Counts.KernelCounts.{greatest_count, of_place, of_statement, words_in}
-use Rattle.xc_meaning.specs.States.Items.{Item, awaits, does, stores, stamps}
+use Rattle.xc_invariants.specs.Sided.{DefaultIs, EachChoice}
+use Rattle.xc_meaning.specs.States.Items.{Item, awaits, chooses, does, fixed, stores, stamps}
 use Rattle.xl_expr.specs.declared.plan.VarPlan.{VarPlan}
 use Rattle.xl_expr.specs.Frames.{HasVars, HasPlace, variable_of}
 use Rattle.xl_expr.specs.Plans.{var_in}
@@ -100,6 +101,10 @@ module _ (g : Setting) (r : Runner) where
     pub from : TakesInAt i.resource
     pub asks : AsksRightly i.resource i.time i.condition
 
+  -- an input that counts no more, as that of a select's case
+  abbrev pub CountedInputFits : kernel.Input → Type 0
+  CountedInputFits i = InputFits i × IsCounted (kernel.input i)
+
   -- an exit needs nothing, and of what isn't built nothing is said
   abbrev mutual
     pub Fits : kernel.Statement → Type 0
@@ -111,12 +116,22 @@ module _ (g : Setting) (r : Runner) where
     Fits (kernel.if_then x a b) = Uses x × AllFit a × AllFit b × IsCounted (kernel.if_then x a b)
     Fits (kernel.loop x a b) = Uses x × AllFit a × AllFit b × IsCounted (kernel.loop x a b)
     Fits (kernel.block n a) = AllFit a
+    Fits (kernel.select cs d pos) = CasesFit cs × DefaultFits d × IsCounted (kernel.select cs d pos)
     Fits (kernel.par bs) = BranchesFit bs × IsCounted (kernel.par bs)
     Fits other = Unit {0}
 
     pub AllFit : kernel.Statements → Type 0
     AllFit kernel.no_more = Unit {0}
     AllFit (kernel.more s ss) = Fits s × AllFit ss
+
+    pub CasesFit : kernel.Cases → Type 0
+    CasesFit kernel.no_case = Unit {0}
+    CasesFit (kernel.more_cases (kernel.case guard i ss) cs) =
+        (UsesSome guard × CountedInputFits i × AllFit ss) × CasesFit cs
+
+    pub DefaultFits : kernel.Default → Type 0
+    DefaultFits kernel.no_default = Unit {0}
+    DefaultFits (kernel.default ss) = AllFit ss
 
     pub BranchesFit : kernel.Branches → Type 0
     BranchesFit kernel.no_branch = Unit {0}
@@ -133,6 +148,8 @@ module _ (g : Setting) (r : Runner) where
   ItemFits (stores place v) = ChangesAt (Some place) × (of_place place ≤ greatest)
   ItemFits (stamps resource place v) = StampsAt resource × ChangesAt (Some place) × (of_place place ≤ greatest)
   ItemFits (awaits c pos) = IsChannel g r c
+  ItemFits (chooses choices otherwise) = EachChoice CountedInputFits AllFit choices × DefaultIs AllFit otherwise
+  ItemFits (fixed i v counter) = CountedInputFits i
   ItemFits other = Unit {0}
 
   abbrev pub ItemsFit : List Item → Type 0

@@ -15,6 +15,7 @@ use Rattle.xs_instr.specs.declared.trace.Record.{Record}
 use Rattle.xs_instr.specs.declared.trace.Record.TheVariants.{Fault}
 use Rattle.xs_instr.specs.declared.trace.Trap.{Trap}
 use Rattle.xs_instr.specs.Did.{Made, Paused, Traps, makes}
+use Rattle.xs_instr.specs.Events.{vector_of}
 use Rattle.xs_instr.specs.Machine.{noted}
 use Rattle.xs_instr.specs.OwnSteps.{temporary}
 use Rattle.xs_instr.specs.Pool.{all_joined, all_started, all_wait, is_tied, some_tied}
@@ -32,7 +33,7 @@ use Rattle.xc_kernel.specs.Things.{change}
 use Rattle.xc_meaning.specs.Counts.KernelCounts.{branch_count}
 use Rattle.xc_meaning.specs.Settings.Sides.{sides_in}
 use Rattle.xc_meaning.specs.States.Channels.{Side}
-use Rattle.xc_meaning.specs.States.Items.{Item, chooses, does, ends, stores, stamps, storing, todo}
+use Rattle.xc_meaning.specs.States.Items.{Body, Choice, Item, body_items, chooses, does, fixed, ends, stores, stamps, storing, todo}
 use Rattle.xc_meaning.specs.States.Branches.{Branch, runs, ended, erred}
 use Rattle.xc_meaning.specs.States.Worlds.{World, Action, go, take, default}
 use Rattle.xc_meaning.specs.Runs.{acts}
@@ -44,12 +45,16 @@ use Rattle.xl_ends.specs.Ends.{Sides, codes_in}
 use Rattle.xl_par.specs.Acquired.{Acquired, IsAmong, nothing_acquired}
 use Rattle.xl_port.specs.Stamps.{Stamps}
 use Rattle.xl_image.specs.Images.{decl_of}
-use Rattle.xl_plan.specs.Layout.{port_number}
+use Rattle.xl_plan.specs.Layout.{port_number, timer_number}
+use Rattle.xl_select.specs.Entry.{EntersPortCase, EntersTimerCase}
+use Rattle.xr_events.specs.Armed.{IsArmed, Places, res_of}
+use Rattle.xr_events.specs.Latches.{HasLatched}
+use Rattle.xr_events.specs.Turns.{WaitsAt}
 use Rattle.xr_simulation.specs.Items.{EndAt, ItemsAt}
 use Rattle.xr_simulation.specs.Parents.{Parent, syncs_of}
 use Rattle.xl_statements.specs.Pieces.{Exit, LinesAt, PieceAt}
 use Rattle.xr_simulation.specs.Fits.{Fits, ItemsFit, greatest}
-use Rattle.xr_simulation.specs.Runners.{HoldsPlaces, Activation, Setting, Runner, IsLaidOut, IsPort, code, end_place, home, plan, port_place, timer_place}
+use Rattle.xr_simulation.specs.Runners.{HoldsPlaces, Activation, Setting, Runner, IsLaidOut, IsMine, IsPort, code, end_place, home, plan, port_place, timer_place}
 use Rattle.xr_simulation.specs.Sizes.{sizes_in, sizes_of}
 use Rattle.xr_simulation.specs.Transfers.{Transfer, AwaitsNothing, GoesWith, acts_left, items_behind}
 use Rattle.xr_simulation.specs.ThreadViews.{ThreadView, Rely, Guarantee, LeadsIn, after, giving_back, running, running_so}
@@ -150,12 +155,25 @@ is_port_number n (ResPort m) = nat_eq n m
 is_port_number n (ResTimer m) = false
 is_port_number n (ResEnd m) = false
 
+-- and the timer
+abbrev pub is_timer_number : (n : ℕ) → Res → Bool
+is_timer_number n (ResPort m) = false
+is_timer_number n (ResTimer m) = nat_eq n m
+is_timer_number n (ResEnd m) = false
+
+-- the port or timer of an input on a core
+abbrev pub is_latched_by : Setting → (core : ℕ) → KRes → Res → Bool
+is_latched_by g core (resource.Port p) part = is_port_number (port_number core g.program.ports p) part
+is_latched_by g core (resource.Timer t) part = is_timer_number (timer_number core g.program.timers t) part
+is_latched_by g core (resource.Chan c) part = false
+
 -- A thread stands on a part of its core where what it does next is to find it as it is: a port whose stamp one of the first items has
--- still to store.
+-- still to store, or the port or timer that has latched what the first item has fixed.
 abbrev pub stands_on_part : Setting → (core : ℕ) → List Item → Res → Bool
 stands_on_part g core (stores place v ∷ rest) part = stands_on_part g core rest part
 stands_on_part g core (stamps (resource.Port p) place v ∷ rest) part =
     is_port_number (port_number core g.program.ports p) part || stands_on_part g core rest part
+stands_on_part g core (fixed i v counter ∷ rest) part = is_latched_by g core i.resource part
 stands_on_part g core items part = false
 
 -- two cores have the same of each of these parts
@@ -250,10 +268,29 @@ module _ (g : Setting) (r : Runner) where
   abbrev pub ItemsFrom : List Item → List Exit → (pc j : ℕ) → Type 0
   ItemsFrom items exits pc j = ItemsAt (plan g r) (code g r) r.sides EndOf items exits pc j
 
+  -- where the runner's resources are on its core; the end of a channel is that of the side in which it stands
+  abbrev pub end_on : Option Side → (channel : ℕ) → ℕ
+  end_on None c = 0
+  end_on (Some side) c = end_place g r c side
+
+  abbrev pub resources_here : Places
+  resources_here = record {
+    port = port_place g r;
+    timer = timer_place g r;
+    end = λ c. end_on (slice_index_or r.sides c None) c;
+  }
+
+  -- the code at which a case begins that was taken, from one index to another, where its resource has latched something
+  abbrev pub EntersAt : KRes → kernel.Input → (pc pc' : ℕ) → Type 0
+  EntersAt (resource.Port p) i pc pc' = LinesAt (code g r) (EntersPortCase (plan g r) i) pc pc'
+  EntersAt (resource.Timer t) i pc pc' = LinesAt (code g r) (EntersTimerCase (plan g r) i) pc pc'
+  EntersAt (resource.Chan c) i pc pc' = ⊥
+
   -- Where a thread stands between two own steps, at an index with these registers: at the code of its branch's items, with j jumps
   -- between them. A store is what an earlier item left to be done: its word is in r0, and behind its code, with whatever registers,
   -- stands what comes next, which takes no event, as long as the parts of the core stay on which that stands. So is a stamp: its port
-  -- has it, and what comes behind its code stands on no part of the core.
+  -- has it, and what comes behind its code stands on no part of the core. The input of a case that was taken stands at the case's
+  -- code, and its port or timer has latched what the input has fixed.
   abbrev pub IsPlacedAt : List Item → (j pc : ℕ) → Regs → CoreState → Type 0
   IsPlacedAt (stores place v ∷ rest) j pc regs core =
       (stored : ℕ) × (regs.r0 ≡ v) × LinesAt (code g r) (Stores (plan g r).vars place R0) pc stored × (is_watching rest ≡ false)
@@ -261,6 +298,9 @@ module _ (g : Setting) (r : Runner) where
   IsPlacedAt (stamps (resource.Port p) place v ∷ rest) j pc regs core =
       (stored : ℕ) × HasStamp p v core × LinesAt (code g r) (Stamps (plan g r) (resource.Port p) place) pc stored
       × (is_watching rest ≡ false) × ((regs' : Regs) (core' : CoreState) → HasBases regs' → IsPlacedAt rest j stored regs' core')
+  IsPlacedAt (fixed i v counter ∷ rest) j pc regs core =
+      (entered : ℕ) × (exits : List Exit) × HasLatched resources_here core i.resource v counter
+      × EntersAt i.resource i pc entered × ItemsFrom rest exits entered j
   IsPlacedAt items j pc regs core = (exits : List Exit) × ItemsFrom items exits pc j
 
   -- the branch has these items, and the core has its words and ports
@@ -514,6 +554,42 @@ module _ (g : Setting) (r : Runner) where
     pub fits : ItemsFit g r items
     pub has : Has items z
 
+  -- The code of a case's input stands at an index, and behind it that of what follows the input, with at most so many jumps. A port's or
+  -- timer's is entered with what was latched, and a channel's is a whole input.
+  abbrev pub CaseAt : KRes → kernel.Input → (behind : List Item) → (most index : ℕ) → Type 0
+  CaseAt (resource.Chan c) i behind most index =
+      (exits : List Exit) × (jumps : ℕ) × (jumps ≤ most) × ItemsFrom (does (kernel.input i) ∷ behind) exits index jumps
+  CaseAt res i behind most index =
+      (entered : ℕ) × (exits : List Exit) × (jumps : ℕ) × (jumps ≤ most)
+      × EntersAt i.resource i index entered × ItemsFrom behind exits entered jumps
+
+  -- and that of the default, where there is one
+  abbrev pub DefaultAt : Option Body → List Item → (most index : ℕ) → Type 0
+  DefaultAt None rest most index = Unit {0}
+  DefaultAt (Some body) rest most index =
+      (exits : List Exit) × (jumps : ℕ) × (jumps ≤ most) × ItemsFrom (body_items body rest) exits index jumps
+
+  -- The thread takes events at its select: its enabled cases are set up on resources of the runner's own, each one's vector leads to the
+  -- case's code, and the default's stands behind the instruction that looks for an event once. Which cases are ready isn't said.
+  pub record Selects (j : ℕ) (y : ThreadView) : Type 0 where
+    pub choices : List Choice
+    pub otherwise : Option Body
+    pub rest : List Item
+    pub no_hand : y.hand ≡ None
+    pub pc : ℕ
+    pub regs : Regs
+    pub here : IsAtItems (chooses choices otherwise ∷ rest) y pc regs
+    pub bases : HasBases regs
+    pub code : WaitsAt (home g r) pc otherwise
+    pub armed : IsArmed resources_here r.thread choices y.core
+    pub own : (n : ℕ) (c : Choice) → slice_get choices n ≡ Some c → IsMine g r (res_of resources_here c.input.resource)
+    pub at_cases : (n : ℕ) (c : Choice) → slice_get choices n ≡ Some c →
+        CaseAt c.input.resource c.input (body_items c.body rest) (j + 1)
+        (vector_of y.core.events (res_of resources_here c.input.resource))
+    pub at_default : DefaultAt otherwise rest (j + 1) (pc + 1)
+    pub fits : ItemsFit g r (chooses choices otherwise ∷ rest)
+    pub has : Has (chooses choices otherwise ∷ rest) y
+
   -- the branch can do nothing now
   pub record CannotAct (x : World) : Type 0 where
     pub goes : acts g.program g.stimulus x (go r.branch) ≡ None
@@ -529,6 +605,7 @@ module _ (g : Setting) (r : Runner) where
     waits_tied : Waits y → NextStep j y
     begins : Begins j y → NextStep j y
     communicates : (piece : Piece) → Communicates piece j y → NextStep j y
+    at_select : Selects j y → NextStep j y
 
   -- whatever the others do before it
   abbrev pub StableNextStep : ℕ → ThreadView → Type 0
@@ -548,9 +625,19 @@ module _ (g : Setting) (r : Runner) where
   IsOnSide (resource.Timer t) = Unit {0}
   IsOnSide (resource.Chan c) = (side : Side) × (slice_index_or r.sides c None ≡ Some side)
 
+  abbrev pub CasesOnSides : kernel.Cases → Type 0
+  CasesOnSides kernel.no_case = Unit {0}
+  CasesOnSides (kernel.more_cases (kernel.case guard i ss) cs) = IsOnSide i.resource × CasesOnSides cs
+
+  -- so are the enabled cases of a select
+  abbrev pub ChoicesOnSides : List Choice → Type 0
+  ChoicesOnSides [] = Unit {0}
+  ChoicesOnSides (c ∷ cs) = IsOnSide c.input.resource × ChoicesOnSides cs
+
   abbrev pub StandsInSides : kernel.Statement → Type 0
   StandsInSides (kernel.output o) = IsOnSide o.resource
   StandsInSides (kernel.input i) = IsOnSide i.resource
+  StandsInSides (kernel.select cs otherwise pos) = CasesOnSides cs
   StandsInSides other = Unit {0}
 
   -- From the code of a statement whose branch has it to do next, the thread comes soon to the statement's own instruction.

@@ -46,7 +46,7 @@ module _ {moment : Moment none_rests} {hand : Option Acquired} (thread_at : Thre
   place_core first = on_core first
   place_core second = on_core second
 
-  place_end : (s : Side) → (end_of_side pair s).end ≡ end_place g r channel s
+  pub place_end : (s : Side) → (end_of_side pair s).end ≡ end_place g r channel s
   place_end first = ap (λ d. end_number g.program d channel first) (on_core first ∙ sym core_is)
   place_end second = ap (λ d. end_number g.program d channel second) (on_core second ∙ sym core_is)
 

@@ -41,8 +41,11 @@ box_listed (d ∷ cs) boxes (suc line) c b lt e once =
 
 -- A channel of the kernel's at its only line.
 module _ (K : kernel.Kernel) (line c : ℕ) (is_line : IsLine K line c) where
+  pub line_box : (boxes : List Inboxes) → slice_index_or (boxes_in K boxes) line no_parcels ≡ slice_index_or boxes c no_parcels
+  line_box boxes = box_at (two_sided K) boxes line c is_line
+
   pub line_parcels : (boxes : List Inboxes) (side : Side) → parcels (boxes_in K boxes) line side ≡ parcels boxes c side
-  line_parcels boxes side = ap (λ b. Rattle.xc_meaning.specs.States.Channels.parcels_at b side) (box_at (two_sided K) boxes line c is_line)
+  line_parcels boxes side = ap (λ b. Rattle.xc_meaning.specs.States.Channels.parcels_at b side) (line_box boxes)
 
   pub line_boxed : (boxes : List Inboxes) (side : Side) (ps : List Parcel) → c < length boxes → ((j : ℕ) → IsLine K j c → j ≡ line) → boxes_in K (boxed boxes c side ps) ≡ boxed (boxes_in K boxes) line side ps
   line_boxed boxes side ps lt once =

@@ -1,6 +1,7 @@
 -- The plan of a root's core has all that the root's code uses, so each of its statements fits the core.
-use Rattle.std.proofs.Common.{eq-eqb, zero, suc, [], ◌∷◌, ap, ◌≡◌, ℕ, ◌<◌, ◌≤◌, Bool, true, false, List, length, Option, Some, None, Contains, slice_get, refl, sym, subst, ◌∙◌, arith}
+use Rattle.std.proofs.Common.{eq-eqb, zero, suc, [], ◌∷◌, ap, ◌≡◌, ℕ, ◌+◌, ◌<◌, ◌≤◌, Bool, true, false, List, length, Option, Some, None, Contains, slice_get, refl, sym, subst, ◌∙◌, arith}
 use Rattle.std.specs.Prelude.{max, nat_eq, ◌&&◌}
+use Rattle.xc_tree.specs.Depth.{if_some}
 use Rattle.xc_tree.specs.declared.tree.TreeDir.{TreeDir}
 use Rattle.xc_tree.specs.declared.tree.TreeDir.TheVariants.{In, Out, Both}
 use Rattle.xc_tree.specs.Types.Entities.{drives, reads}
@@ -10,11 +11,11 @@ use Rattle.xc_kernel.specs.declared.kernel.Var.{Var}
 use Rattle.xc_kernel.specs.declared.statement.KRes.{KRes}
 use Rattle.xc_kernel.specs.declared.statement.KRes.TheVariants.{Port, Timer, Chan}
 use Rattle.xc_kernel.specs.Plain as kernel
-use Rattle.xc_kernel.specs.Things.{Thing, variable, port, timer, channel, by_read, by_change, by_resource, by_expression, by_operands, by_place, by_target, by_condition, by_some_expression, by_some_target, by_statement, by_statements, by_branches}
-use Rattle.xc_meaning.specs.Counts.KernelCounts.{of_statement, greatest_held, greatest_in, greatest_in_branches, words_in}
+use Rattle.xc_kernel.specs.Things.{Thing, variable, port, timer, channel, by_read, by_change, by_resource, by_expression, by_operands, by_place, by_target, by_condition, by_some_expression, by_some_target, by_input, by_case, by_cases, by_default, by_statement, by_statements, by_branches}
+use Rattle.xc_meaning.specs.Counts.KernelCounts.{of_cases, of_expression, of_input, of_statement, greatest_held, greatest_in, greatest_in_branches, greatest_in_cases, greatest_in_default, words_in}
 use Rattle.xc_meaning.proofs.Basics.{none_given, same_number, or_left, or_right}
 use Rattle.xc_disjoint.specs.Checked.{IsChecked}
-use Rattle.xc_wellformed.specs.Each.{AnyExpression, AnyPlace, AnyNumber, AnyOutput, AnyInput, EachBranch, EachCondition, EachMaybe, EachPlace, EachStatement, EachOf}
+use Rattle.xc_wellformed.specs.Each.{AnyExpression, AnyPlace, AnyNumber, AnyOutput, AnyInput, EachBranch, EachCase, EachCondition, EachDefault, EachMaybe, EachPlace, EachStatement, EachOf}
 use Rattle.xc_wellformed.specs.Numbers.{IsVariable, IsListed, NumbersInExpression, NumbersInOperands, NumbersInPlace}
 use Rattle.xc_wellformed.specs.Transfers.{GoesOut, ComesIn, InputComes, IsNothing, OutputGoes}
 use Rattle.xl_expr.specs.declared.plan.VarPlan.{VarPlan}
@@ -24,7 +25,7 @@ use Rattle.xl_image.specs.Images.{dir_of}
 use Rattle.xl_plan.specs.Layout.{is_used_by}
 use Rattle.xl_plan.proofs.Lists.{contained_at, some_given}
 use Rattle.xl_plan.proofs.UsedResources.{port_used, timer_used}
-use Rattle.xr_simulation.specs.Fits.{AsksRightly, ChangesAt, TakesInAt, UsesCondition, UsesSome, IsChanged, PutsOutAt, Fits, AllFit, BranchesFit, greatest}
+use Rattle.xr_simulation.specs.Fits.{AsksRightly, ChangesAt, TakesInAt, UsesCondition, UsesSome, InputFits, IsChanged, PutsOutAt, Fits, AllFit, BranchesFit, CasesFit, DefaultFits, greatest}
 use Rattle.xr_simulation.specs.Runners.{Setting, Runner, IsChannel, anyone, plan}
 
 -- The statements of a root fit its core.
@@ -51,6 +52,13 @@ left_within a b n h = grind arith
 
 right_within : (a b n : ℕ) → max a b ≤ n → b ≤ n
 right_within a b n h = grind arith
+
+-- of the count of a select's cases: the first one's input, and the others
+input_within : (guard input others n : ℕ) → suc (guard + input) + others ≤ n → input ≤ n
+input_within guard input others n h = omega (arith, h)
+
+others_within : (guard input others n : ℕ) → suc (guard + input) + others ≤ n → others ≤ n
+others_within guard input others n h = omega (arith, h)
 
 -- where a root on a core uses a channel, the core does
 pub used_by_root : (core c : ℕ) (rs : List kernel.Root) (i : ℕ) (root : kernel.Root) → slice_get rs i ≡ Some root → root.core ≡ core → by_statements (channel c) root.body ≡ true → is_used_by core c rs ≡ true
@@ -195,6 +203,18 @@ module _ (g : Setting) (checked : IsChecked g.program) (core : ℕ) (root : kern
     abbrev AllGo : kernel.Statements → Type 0
     AllGo = EachOf AnyExpression AnyPlace AnyNumber (GoesOut g.program) (ComesIn g.program) AnyNumber
 
+    abbrev AllCaseNumbers : kernel.Cases → Type 0
+    AllCaseNumbers = EachCase (NumbersInExpression V) (NumbersInPlace V) (IsListed g.program.variables) AnyOutput AnyInput AnyNumber
+
+    abbrev AllCasesGo : kernel.Cases → Type 0
+    AllCasesGo = EachCase AnyExpression AnyPlace AnyNumber (GoesOut g.program) (ComesIn g.program) AnyNumber
+
+    abbrev DefaultNumbers : kernel.Default → Type 0
+    DefaultNumbers = EachDefault (NumbersInExpression V) (NumbersInPlace V) (IsListed g.program.variables) AnyOutput AnyInput AnyNumber
+
+    abbrev DefaultGoes : kernel.Default → Type 0
+    DefaultGoes = EachDefault AnyExpression AnyPlace AnyNumber (GoesOut g.program) (ComesIn g.program) AnyNumber
+
     abbrev AllBranchNumbers : kernel.Branches → Type 0
     AllBranchNumbers = EachBranch (NumbersInExpression V) (NumbersInPlace V) (IsListed g.program.variables) AnyOutput AnyInput AnyNumber
 
@@ -203,6 +223,21 @@ module _ (g : Setting) (checked : IsChecked g.program) (core : ℕ) (root : kern
 
     abbrev vs : List Var
     vs = g.program.variables
+
+    whole_input_fits : (i : kernel.Input) → Numbers (kernel.input i) → Goes (kernel.input i) → AreOf (λ th. by_input th i) → InputFits g r i
+    whole_input_fits i n t k = record {
+      time = some_fits i.time n.1.0
+          (λ th u. k th (or_right (by_resource th i.resource) _ (or_left (by_some_expression th i.time) _ u)));
+      condition = condition_fits i.condition n.1.1.0 (λ th u. k th
+          (or_right (by_resource th i.resource) _
+          (or_right (by_some_expression th i.time) _ (or_left (by_condition th i.condition) _ u))));
+      stamp = dest_fits i.stamp n.1.1.1.1 (λ th u. k th
+          (or_right (by_resource th i.resource) _ (or_right (by_some_expression th i.time) _
+          (or_right (by_condition th i.condition) _ (or_right (by_some_target th i.target) _ u)))));
+      asks = asks_fit i.resource i.time i.condition i.stamp t.0;
+      target = dest_fits i.target n.1.1.1.0 (λ th u. k th (or_right (by_resource th i.resource) _ (or_right (by_some_expression th i.time) _ (or_right (by_condition th i.condition) _ (or_left (by_some_target th i.target) _ u)))));
+      from = input_fits i.resource i.time i.condition i.stamp t.0 (λ th u. k th (or_left (by_resource th i.resource) _ u));
+    }
 
     mutual
       statement_fits : (s : kernel.Statement) → Numbers s → Goes s → AreOf (λ th. by_statement th s) → of_statement vs s ≤ greatest g r → greatest_held vs s ≤ greatest g r → Fits g r s
@@ -221,22 +256,7 @@ module _ (g : Setting) (checked : IsChecked g.program) (core : ℕ) (root : kern
         },
         one,
       )
-      statement_fits (kernel.input i) n t k one held = (
-        record {
-          time = some_fits i.time n.1.0
-              (λ th u. k th (or_right (by_resource th i.resource) _ (or_left (by_some_expression th i.time) _ u)));
-          condition = condition_fits i.condition n.1.1.0 (λ th u. k th
-              (or_right (by_resource th i.resource) _
-              (or_right (by_some_expression th i.time) _ (or_left (by_condition th i.condition) _ u))));
-          stamp = dest_fits i.stamp n.1.1.1.1 (λ th u. k th
-              (or_right (by_resource th i.resource) _ (or_right (by_some_expression th i.time) _
-              (or_right (by_condition th i.condition) _ (or_right (by_some_target th i.target) _ u)))));
-          asks = asks_fit i.resource i.time i.condition i.stamp t.0;
-          target = dest_fits i.target n.1.1.1.0 (λ th u. k th (or_right (by_resource th i.resource) _ (or_right (by_some_expression th i.time) _ (or_right (by_condition th i.condition) _ (or_left (by_some_target th i.target) _ u)))));
-          from = input_fits i.resource i.time i.condition i.stamp t.0 (λ th u. k th (or_left (by_resource th i.resource) _ u));
-        },
-        one,
-      )
+      statement_fits (kernel.input i) n t k one held = (whole_input_fits i n t k, one)
       statement_fits (kernel.if_then e a b) n t k one held = (
         expression_fits e n.0 (λ th u. k th (or_left _ _ u)),
         all_fit a n.1.0 t.1.0 (λ th u. k th (or_right (by_expression th e) _ (or_left _ _ u))) (left_within (greatest_in vs a) (greatest_in vs b) (greatest g r) held),
@@ -251,7 +271,11 @@ module _ (g : Setting) (checked : IsChecked g.program) (core : ℕ) (root : kern
       )
       statement_fits (kernel.block m a) n t k one held = all_fit a n t k held
       statement_fits (kernel.exit m) n t k one held = tt
-      statement_fits (kernel.select cs d pos) n t k one held = tt
+      statement_fits (kernel.select cs d pos) n t k one held = (
+        cases_fit cs n.0 t.0 (λ th u. k th (or_left _ _ u)) one (left_within (greatest_in_cases vs cs) (greatest_in_default vs d) (greatest g r) held),
+        default_fits d n.1 t.1 (λ th u. k th (or_right (by_cases th cs) _ u)) (right_within (greatest_in_cases vs cs) (greatest_in_default vs d) (greatest g r) held),
+        one,
+      )
       statement_fits (kernel.par bs) n t k one held = (branches_fit bs n t k held, one)
       statement_fits (kernel.transaction c is_master a start close) n t k one held = tt
 
@@ -262,6 +286,24 @@ module _ (g : Setting) (checked : IsChecked g.program) (core : ℕ) (root : kern
             statement_fits s n.0 t.0 (λ th u. k th (or_left _ _ u)) (left_within (of_statement vs s) (greatest_held vs s) (greatest g r) own) (right_within (of_statement vs s) (greatest_held vs s) (greatest g r) own),
             all_fit ss n.1 t.1 (λ th u. k th (or_right (by_statement th s) _ u)) (right_within (max (of_statement vs s) (greatest_held vs s)) (greatest_in vs ss) (greatest g r) most),
           )
+
+      cases_fit : (cs : kernel.Cases) → AllCaseNumbers cs → AllCasesGo cs → AreOf (λ th. by_cases th cs) → of_cases cs ≤ greatest g r → greatest_in_cases vs cs ≤ greatest g r → CasesFit g r cs
+      cases_fit kernel.no_case n t k one most = tt
+      cases_fit (kernel.more_cases (kernel.case guard i ss) cs) n t k one most = (
+        (
+          some_fits guard n.0.0 (λ th u. k th (or_left _ _ (or_left (by_some_expression th guard) _ u))),
+          (
+            whole_input_fits i n.0.1.0 t.0.1.0 (λ th u. k th (or_left _ _ (or_right (by_some_expression th guard) _ (or_left (by_input th i) _ u)))),
+            input_within (if_some of_expression guard) (of_input i) (of_cases cs) (greatest g r) one,
+          ),
+          all_fit ss n.0.1.1 t.0.1.1 (λ th u. k th (or_left _ _ (or_right (by_some_expression th guard) _ (or_right (by_input th i) _ u)))) (left_within (greatest_in vs ss) (greatest_in_cases vs cs) (greatest g r) most),
+        ),
+        cases_fit cs n.1 t.1 (λ th u. k th (or_right (by_case th (kernel.case guard i ss)) _ u)) (others_within (if_some of_expression guard) (of_input i) (of_cases cs) (greatest g r) one) (right_within (greatest_in vs ss) (greatest_in_cases vs cs) (greatest g r) most),
+      )
+
+      default_fits : (d : kernel.Default) → DefaultNumbers d → DefaultGoes d → AreOf (λ th. by_default th d) → greatest_in_default vs d ≤ greatest g r → DefaultFits g r d
+      default_fits kernel.no_default n t k most = tt
+      default_fits (kernel.default ss) n t k most = all_fit ss n t k most
 
       branches_fit : (bs : kernel.Branches) → AllBranchNumbers bs → AllBranchesGo bs → AreOf (λ th. by_branches th bs) → greatest_in_branches vs bs ≤ greatest g r → BranchesFit g r bs
       branches_fit kernel.no_branch n t k most = tt

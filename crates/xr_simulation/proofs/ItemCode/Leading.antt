@@ -15,6 +15,7 @@ use Rattle.xr_simulation.proofs.OwnSteps.Ends.{end_leads}
 use Rattle.xr_simulation.proofs.ItemCode.Jumps.{jumps_lead}
 use Rattle.xr_simulation.proofs.Relation.Sides.{FirstIsSided}
 use Rattle.xr_simulation.proofs.ItemCode.Statements.{statement_leads}
+use Rattle.xr_simulation.proofs.ItemCode.Fixed.{fixed_leads}
 use Rattle.xr_simulation.proofs.ItemCode.Stamps.{stamped_leads}
 use Rattle.xr_simulation.proofs.ItemCode.Stores.{stored_leads}
 
@@ -90,7 +91,12 @@ module _ (g : Setting) (r : Runner) (laid : IsLaidOut g r) (core : r.core < 4) w
   rest_leads (awaits c pos ∷ rest) j z h sized own sided is = absurd h.stands.1.stands
   rest_leads (transaction_end c is_master pos ∷ rest) j z h sized own sided is = absurd h.stands.1.stands
   rest_leads (chooses choices otherwise ∷ rest) j z h sized own sided is = absurd h.stands.1.stands
-  rest_leads (fixed i v counter ∷ rest) j z h sized own sided is = absurd h.stands.1.stands
+  rest_leads (fixed i v counter ∷ rest) j z h sized own sided is = (
+    cost g r,
+    j,
+    omega arith,
+    fixed_leads g r laid i v counter rest j h.pc h.regs z h.bases h.here h.has h.fits is h.stands,
+  )
 
   -- the same with what it has to have in hand for that item
   pub settled_leads : (items : List Item) (j : ℕ) (z : ThreadView) → Rest g r items j z → IsSized g r z → IsOwn r.parents items →

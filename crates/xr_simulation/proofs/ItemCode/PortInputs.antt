@@ -1,8 +1,7 @@
 -- An input from a port: from its code the thread comes to the instruction that reads the pins, once they and the counter are what it waits
 -- for, and waits with its branch till then; behind that the value and the port's counter are stored, where there are places for them.
-use Rattle.std.proofs.Common.{◌≡◌, ℕ, ◌+◌, ◌++◌, ◌*◌, ◌≤◌, true, false, List, ◌∷◌, length, Option, Some, None, refl, sym, ap, ◌∙◌, subst, arith}
+use Rattle.std.proofs.Common.{◌≡◌, ℕ, ◌+◌, ◌++◌, ◌*◌, ◌≤◌, true, List, ◌∷◌, length, Option, Some, None, refl, sym, ap, ◌∙◌, subst, arith}
 use Rattle.std.specs.Prelude.{slice_set}
-use Rattle.std.proofs.lemmas.List.{length-append}
 use Rattle.xs_instr.specs.declared.image.PortDecl.{PortDecl}
 use Rattle.xs_instr.specs.declared.instr.Reg.TheVariants.{R0}
 use Rattle.xs_instr.specs.declared.state.CoreState.{CoreState}
@@ -26,10 +25,9 @@ use Rattle.xc_meaning.specs.States.Items.{Item, When, does, stamping, storing}
 use Rattle.xc_meaning.specs.States.Worlds.{World, only_if, with_record}
 use Rattle.xl_expr.specs.PartSteps.{KeptParts}
 use Rattle.xl_expr.specs.ResourceParts.{port_alone}
-use Rattle.xl_expr.proofs.Lists.{get_set_same, stand_back, stand_front}
+use Rattle.xl_expr.proofs.Lists.{get_set_same, stand_front}
 use Rattle.xl_expr.proofs.Runs.{r0_alone}
 use Rattle.xl_port.specs.Inputs.{Inputs, ReadsPins, SampleOutcome, in_record, pins_at, waiting_nodes}
-use Rattle.xl_port.specs.Stamps.{StampsTo}
 use Rattle.xl_port.specs.Timings.{port_set, timing_expression}
 use Rattle.xl_statements.specs.Pieces.{Exit, LinesAt}
 use Rattle.xr_simulation.specs.Fits.{AsksRightly, Fits, IsInPort, ItemsFit}
@@ -39,14 +37,12 @@ use Rattle.xr_simulation.specs.NextStep as turn
 use Rattle.xr_simulation.specs.NextStep.{Goes, Has, HasBases, HasStamp, IsAt, ItemsFrom, Leads, PortIs, IsPlacedAt, NextStep, cost, is_watching}
 use Rattle.xr_simulation.proofs.Image.Bases.{bases_scratched, bases_worked}
 use Rattle.xr_simulation.proofs.ItemCode.Evaluations.{with_items}
-use Rattle.xr_simulation.proofs.ItemCode.Items.{storing_fits}
-use Rattle.xr_simulation.proofs.ItemCode.OnResources.{port_stands, stamping_fits, stamping_stands, stamping_unwatched, storing_stands, storing_unwatched}
+use Rattle.xr_simulation.proofs.ItemCode.InputsLeft.{Leaves, left_by, left_fits, left_stands, left_unwatched}
+use Rattle.xr_simulation.proofs.ItemCode.OnResources.{port_stands}
 use Rattle.xr_simulation.proofs.ItemCode.ResourceTurns.{AtTransfer, Passes, both_err, has_still, passed, port_moves, same_clock, same_core, setting, transfer_leads, transfer_turn}
 use Rattle.xr_simulation.proofs.ItemCode.Timings.{counters_agree, identifier_is, pins_agree, port_agrees, set_declared, time_laid, timing_still, timing_uses, waiting_costs}
 use Rattle.xr_simulation.proofs.RelyGuarantee.Arrival.{alone_mine}
-use Rattle.xr_simulation.proofs.RelyGuarantee.Events.{items_unwatched}
 use Rattle.xr_simulation.proofs.RelyGuarantee.Layouts.{room_of, runs_at}
-use Rattle.xr_simulation.proofs.RelyGuarantee.Stands.{stands_kept}
 
 -- The code of an input from port p of the kernel.
 module _ (g : Setting) (r : Runner) (laid : IsLaidOut g r) (i : kernel.Input) (p : ℕ) (from_port : i.resource ≡ Port p)
@@ -65,7 +61,7 @@ module _ (g : Setting) (r : Runner) (laid : IsLaidOut g r) (i : kernel.Input) (p
   abbrev port : PortState
   port = its.port
 
-  -- its lines, and where those begin that write
+  -- its lines, and what they leave to the branch
 
   abbrev parts : Inputs (plan g r) i pc lines.lines
   parts = lines.so
@@ -73,56 +69,29 @@ module _ (g : Setting) (r : Runner) (laid : IsLaidOut g r) (i : kernel.Input) (p
   abbrev at_write : ℕ
   at_write = pc + length parts.transfer
 
-  abbrev at_stamp : ℕ
-  at_stamp = at_write + length parts.write
-
   all_stand : StandAt (code g r) pc (parts.transfer ++ (parts.write ++ parts.stamp))
   all_stand = subst (StandAt (code g r) pc) parts.is lines.stand
 
-  writes_stand : StandAt (code g r) at_write (parts.write ++ parts.stamp)
-  writes_stand = stand_back (code g r) pc parts.transfer (parts.write ++ parts.stamp) all_stand
+  leaves : Leaves g r i p rest exits pc pc' j parts.transfer
+  leaves = record {
+    fits = fits;
+    from_port = from_port;
+    in_port = in_port;
+    write = parts.write;
+    stamp = parts.stamp;
+    stand = all_stand;
+    end = lines.end ∙ ap (λ l. pc + length l) parts.is;
+    writes = parts.writes;
+    stamps = parts.stamps;
+    behind = behind;
+    rest_fits = rest_fits;
+  }
 
-  stamp_end : pc' ≡ at_stamp + length parts.stamp
-  stamp_end =
-      let a = lines.end in
-      let b = ap length parts.is in
-      let c = length-append parts.transfer (parts.write ++ parts.stamp) in
-      let d = length-append parts.write parts.stamp in
-      omega (arith, a, b, c, d)
-
-  -- What is left to the branch.
-  module _ (value count : ℕ) where
-    abbrev stamp_left : List Item
-    stamp_left = stamping (Port p) i.stamp count rest
-
-    abbrev all_left : List Item
-    all_left = storing i.target value stamp_left
-
-    left_fits : ItemsFit g r all_left
-    left_fits =
-        let counted = fits.1 in
-        storing_fits g r i.target value stamp_left fits.0.target (omega (arith, counted))
-        (stamping_fits g r p in_port.listed in_port.is i.stamp count rest fits.0.stamp (omega (arith, counted)) rest_fits)
-
-    stamp_unwatched : is_watching stamp_left ≡ false
-    stamp_unwatched = stamping_unwatched g r (Port p) i.stamp count rest (items_unwatched g r rest exits pc' j behind)
-
-    stamp_stands : (later : Regs) (core : CoreState) → HasStamp g r p count core → IsPlacedAt g r stamp_left j at_stamp later core
-    stamp_stands later core has_stamp =
-        stamping_stands g r p count rest exits at_stamp pc' j parts.stamp
-        (stand_back (code g r) at_write parts.write parts.stamp writes_stand) stamp_end behind i.stamp
-        (subst (λ res. StampsTo (plan g r) res i.stamp at_stamp parts.stamp) from_port parts.stamps) later core has_stamp
-
-    left_stands : (last : Regs) (core : CoreState) → HasBases g r last → last.r0 ≡ value → HasStamp g r p count core →
-        IsPlacedAt g r all_left j at_write last core
-    left_stands last core bases' in_r0 has_stamp =
-        storing_stands g r stamp_left at_write j parts.write (stand_front (code g r) at_write parts.write parts.stamp writes_stand) core
-        stamp_unwatched
-        (λ later other bases_then same. stands_kept g r stamp_left j at_stamp later core other same (stamp_stands later core has_stamp))
-        i.target parts.writes value last bases' in_r0
+  abbrev all_left : (value count : ℕ) → List Item
+  all_left value count = left_by g r leaves value count
 
   -- At the end of its way.
-  module _ (q : ThreadView) (at : AtTransfer g r mine (kernel.input i) rest z q) where
+  module _ (q : ThreadView) (at : AtTransfer g r mine (does (kernel.input i)) rest z q) where
     abbrev s : source.Setting
     s = setting g r at
 
@@ -183,11 +152,11 @@ module _ (g : Setting) (r : Runner) (laid : IsLaidOut g r) (i : kernel.Input) (p
         timers = q.core.timers;
         moves = port_moves g r p in_port.listed in_port.is q w.index at_write w.regs last moved made w.here (w.goes h);
         bases = bases';
-        unwatched = storing_unwatched g r i.target value (stamp_left value (counter clock)) (stamp_unwatched value (counter clock));
-        stands = left_stands value (counter clock) last _ bases'
+        unwatched = left_unwatched g r leaves value (counter clock);
+        stands = left_stands g r leaves value (counter clock) last _ bases'
             (ap (λ (d : PortDecl). machine.pins_of (home g r) clock d.port) (set_declared when port))
             (moved, get_set_same q.core.ports place set moved w.port_is, refl);
-        fits = left_fits value (counter clock);
+        fits = left_fits g r leaves value (counter clock);
       }
         where
           moved : PortState
@@ -214,7 +183,7 @@ module _ (g : Setting) (r : Runner) (laid : IsLaidOut g r) (i : kernel.Input) (p
 
   -- where the code leads, the turn is next
   turns : (t : Timing) → timing z.world.store i.time i.condition ≡ t → (y q : ThreadView) → outcome t y.core →
-      KeptParts (relied g r) mine r.thread y.core q.core → AtTransfer g r mine (kernel.input i) rest z q → NextStep g r j q
+      KeptParts (relied g r) mine r.thread y.core q.core → AtTransfer g r mine (does (kernel.input i)) rest z q → NextStep g r j q
   turns (passes when) e y q h kept at = pins_turn q at when e (h q.core kept)
   turns (fails kind pos) e y q h kept at = turn.errs (both_err g r at kind pos (h q.core kept) (step_is q at (fails kind pos) e))
 
@@ -230,7 +199,7 @@ module _ (g : Setting) (r : Runner) (laid : IsLaidOut g r) (i : kernel.Input) (p
       (stand_front (code g r) pc parts.transfer (parts.write ++ parts.stamp) all_stand) (runs_at g r z pc regs here)
       (room_of g r laid z regs bases has.holds) (time_laid g r laid z regs (timing_expression i.time i.condition) uses bases has.holds)
       asks (port_stands g r laid z regs i.resource p in_port.listed port from_port in_port.is its.there bases) receives)
-      laid (kernel.input i) rest has no_hand (turns when refl)
+      laid (does (kernel.input i)) rest has no_hand (turns when refl)
 
 -- from its code to that instruction
 pub port_input_leads : (g : Setting) (r : Runner) (i : kernel.Input) (p : ℕ) → i.resource ≡ Port p → IsInPort g r p →

@@ -109,7 +109,7 @@ module _ (g : Setting) (r : Runner) (laid : IsLaidOut g r) (o : kernel.Output) (
       (subst (λ res. StampsTo (plan g r) res o.stamp at_stamp parts.stamp) to_port parts.stamps) last core has_stamp
 
   -- At the end of its way.
-  module _ (q : ThreadView) (at : AtTransfer g r mine (kernel.output o) rest z q) where
+  module _ (q : ThreadView) (at : AtTransfer g r mine (does (kernel.output o)) rest z q) where
     abbrev s : source.Setting
     s = setting g r at
 
@@ -211,7 +211,7 @@ module _ (g : Setting) (r : Runner) (laid : IsLaidOut g r) (o : kernel.Output) (
   -- Where the code leads, the turn is next: by the value,
   value_turns : (time : Option ℕ) → option_map (eval z.world.store) o.time ≡ option_map word time → (value : Value) →
       eval z.world.store o.value ≡ value → (y q : ThreadView) → at_value time value y.core →
-      KeptParts (relied g r) mine r.thread y.core q.core → AtTransfer g r mine (kernel.output o) rest z q → NextStep g r j q
+      KeptParts (relied g r) mine r.thread y.core q.core → AtTransfer g r mine (does (kernel.output o)) rest z q → NextStep g r j q
   value_turns time e (word v) f y q h kept at = word_turn q at time e v f (h q.core kept)
   value_turns time e (error kind pos) f y q h kept at =
       turn.errs (both_err g r at kind pos (h q.core kept) (step_is q at time e (error kind pos) f))
@@ -219,7 +219,7 @@ module _ (g : Setting) (r : Runner) (laid : IsLaidOut g r) (o : kernel.Output) (
   -- and by the time, whose error comes first.
   turns : (time : Option Value) (value : Value) → option_map (eval z.world.store) o.time ≡ time → eval z.world.store o.value ≡ value →
       (y q : ThreadView) → at_end time value y.core → KeptParts (relied g r) mine r.thread y.core q.core →
-      AtTransfer g r mine (kernel.output o) rest z q → NextStep g r j q
+      AtTransfer g r mine (does (kernel.output o)) rest z q → NextStep g r j q
   turns None value e f y q h kept at = value_turns None e value f y q h kept at
   turns (Some (word t)) value e f y q h kept at = value_turns (Some t) e value f y q h kept at
   turns (Some (error kind pos)) value e f y q h kept at =
@@ -238,7 +238,7 @@ module _ (g : Setting) (r : Runner) (laid : IsLaidOut g r) (o : kernel.Output) (
       (room_of g r laid z regs bases has.holds) (time_laid g r laid z regs o.time fits.0.time bases has.holds)
       (laid_at g r laid z regs o.value fits.0.value bases has.holds)
       (port_stands g r laid z regs o.resource p out.listed port to_port out.is its.there bases) sends)
-      laid (kernel.output o) rest has no_hand (turns time value refl refl)
+      laid (does (kernel.output o)) rest has no_hand (turns time value refl refl)
 
 -- from its code to that instruction
 pub port_output_leads : (g : Setting) (r : Runner) (o : kernel.Output) (p : ℕ) → o.resource ≡ Port p → IsOutPort g r p →

@@ -92,7 +92,7 @@ module _ (g : Setting) (r : Runner) (laid : IsLaidOut g r) (i : kernel.Input) (t
       i.target parts.writes v last bases' in_r0
 
   -- At the end of its way.
-  module _ (q : ThreadView) (at : AtTransfer g r mine (kernel.input i) rest z q) where
+  module _ (q : ThreadView) (at : AtTransfer g r mine (does (kernel.input i)) rest z q) where
     abbrev s : source.Setting
     s = setting g r at
 
@@ -149,7 +149,7 @@ module _ (g : Setting) (r : Runner) (laid : IsLaidOut g r) (i : kernel.Input) (t
 
   -- where the code leads, the turn is next
   turns : (w : Timing) → timing z.world.store i.time i.condition ≡ w → (y q : ThreadView) → outcome w y.core →
-      KeptParts (relied g r) mine r.thread y.core q.core → AtTransfer g r mine (kernel.input i) rest z q → NextStep g r j q
+      KeptParts (relied g r) mine r.thread y.core q.core → AtTransfer g r mine (does (kernel.input i)) rest z q → NextStep g r j q
   turns (passes when) e y q h kept at = clock_turn q at when e (h q.core kept)
   turns (fails kind pos) e y q h kept at = turn.errs (both_err g r at kind pos (h q.core kept) (step_is q at (fails kind pos) e))
 
@@ -164,7 +164,7 @@ module _ (g : Setting) (r : Runner) (laid : IsLaidOut g r) (i : kernel.Input) (t
       (stand_front (code g r) pc parts.transfer parts.write all_stand) (runs_at g r z pc regs here)
       (room_of g r laid z regs bases has.holds) (time_laid g r laid z regs (timing_expression i.time i.condition) uses bases has.holds)
       no_time asks (timer_stands g r laid z regs i.resource t read.listed timer from_timer read.is its.there bases))
-      laid (kernel.input i) rest has no_hand (turns w refl)
+      laid (does (kernel.input i)) rest has no_hand (turns w refl)
 
 -- from its code to that instruction
 pub timer_input_leads : (g : Setting) (r : Runner) (i : kernel.Input) (t : ℕ) → i.resource ≡ Timer t → IsReadTimer g r t →

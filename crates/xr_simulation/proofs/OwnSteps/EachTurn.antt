@@ -27,7 +27,7 @@ use Rattle.xr_simulation.specs.Runners.{Setting, Runner, footprint_of, home}
 use Rattle.xr_simulation.specs.ThreadViews.{IsSilentStep, LeadsIn, Rely, ThreadView, giving_back}
 use Rattle.xr_simulation.specs.MatchStates.{EventsAre, HasEnded, HasThread, RunsBranch, ThreadRel, ProgressBy, ProgressWith, ThreadIs, none_rests}
 use Rattle.xr_simulation.specs.Transfers.{StopsIn, Transfer, steps_left, in_phase}
-use Rattle.xr_simulation.specs.NextStep.{Communicates, Errs, Frees, GivesBack, Goes, InTransfer, IsFree, IsWaitingTied, Joins, JoinsAt, Piece, NextStep, StableNextStep, Waits, begins, communicates, cost, errs, frees, goes_on, pauses, puts_out, takes_in, waits_tied}
+use Rattle.xr_simulation.specs.NextStep.{Communicates, Errs, Frees, GivesBack, Goes, InTransfer, IsFree, IsWaitingTied, Joins, JoinsAt, Piece, NextStep, StableNextStep, Waits, begins, communicates, cost, errs, frees, goes_on, pauses, puts_out, at_select, takes_in, waits_tied}
 use Rattle.xr_simulation.proofs.Channels.AnswerRows.{answer_followed}
 use Rattle.xr_simulation.proofs.Par.Opens as begun
 use Rattle.xr_simulation.proofs.Par.Opens.{begins_followed}
@@ -40,6 +40,8 @@ use Rattle.xr_simulation.proofs.Par.Joins.{joins_followed}
 use Rattle.xr_simulation.proofs.Relation.Moments.{BranchAt, Moment, ThreadAt, branch_of, thread_of}
 use Rattle.xr_simulation.proofs.Relation.CoreSteps.{kept_now, works_at}
 use Rattle.xr_simulation.proofs.Channels.OfferRows.{offer_followed}
+use Rattle.xr_simulation.proofs.Channels.SelectEnds.{selects_alike}
+use Rattle.xr_simulation.proofs.ItemCode.SelectTurns.{SelectGoes}
 use Rattle.xr_simulation.proofs.OwnSteps.Events.{rests_alone}
 use Rattle.xr_simulation.proofs.Par.Resumes as resumes
 use Rattle.xr_simulation.proofs.Par.Resumes.{resumes_followed}
@@ -212,6 +214,11 @@ module _ (moment : Moment none_rests)
           goal_of none_rests (λ d u ne. refl) h.left None [] (ap (stepped (home g r) w.machine r.core r.thread a) h.made_is) e
           (waits_answered here_alone outside h)
 
+    -- at a select
+    select_goal : hand ≡ None → r.transfer ≡ None → (j : ℕ) → j ≤ stand.left → SelectGoes g r j now → Leaves (slot (home g r) a r.thread) → Goal
+    select_goal none out j few (inl (p, cannot)) e = no_step (home g r) w.machine m r.core r.thread a (slot (home g r) a r.thread) (inr p) e
+    select_goal none out j few (inr h) e = go_goal none out j few (subst (λ k. Goes g r j (record { core = a; world = x.state; hand = k })) none h) e
+
     -- the turn at an item's own instruction
     at_turn : branch.mode ≡ runs → r.transfer ≡ None → (j : ℕ) → j ≤ stand.left → NextStep g r j now → Leaves (slot (home g r) a r.thread) → Goal
     at_turn on out j few (pauses p none) e = no_step (home g r) w.machine m r.core r.thread a (slot (home g r) a r.thread) (inr p) e
@@ -222,6 +229,7 @@ module _ (moment : Moment none_rests)
     at_turn on out j few (communicates piece h) e =
         piece_goal h.no_hand out on j few piece
         (subst (λ k. Communicates g r piece j (record { core = a; world = x.state; hand = k })) h.no_hand h) e
+    at_turn on out j few (at_select h) e = select_goal h.no_hand out j few (selects_alike thread_here out j h) e
     at_turn on out j few (begins h) e =
         let same : branch ≡ h.branch = same_Some branch h.branch (sym known ∙ h.does_par.known) in
         let stand' = stand_of g r false hand a x.state (w.lives c t) x.actions branch h.branch same stand in

@@ -25,11 +25,13 @@ use Rattle.xr_simulation.specs.Runners.{Setting, home}
 use Rattle.xr_simulation.specs.ThreadViews.{LeadsIn, Rely, ThreadView, giving_back}
 use Rattle.xr_simulation.specs.MatchStates.{HasEnded, IsRun, RunsBranch, ProgressBy, ProgressWith, none_rests}
 use Rattle.xr_simulation.specs.Transfers.{Transfer}
-use Rattle.xr_simulation.specs.NextStep.{CannotAct, GivesBack, Joins, NextStep, StableNextStep, begins, errs, frees, goes_on, pauses, waits_tied, communicates, puts_out, takes_in}
+use Rattle.xr_simulation.specs.NextStep.{at_select, CannotAct, GivesBack, Joins, NextStep, StableNextStep, begins, errs, frees, goes_on, pauses, waits_tied, communicates, puts_out, takes_in}
 use Rattle.xr_simulation.proofs.Par.JoinDecision.{done_each, joins_together}
 use Rattle.xr_simulation.proofs.Relation.Moments.{Moment, ThreadAt, thread_of}
 use Rattle.xr_simulation.proofs.Relation.CoreSteps.{core_of, kept_now, stands_at}
 use Rattle.xr_simulation.proofs.Quiet.Channels.{inside_cannot, offers_goes, takes_in_cannot}
+use Rattle.xr_simulation.proofs.Channels.SelectEnds.{selects_alike}
+use Rattle.xr_simulation.proofs.ItemCode.SelectTurns.{SelectGoes}
 use Rattle.xr_simulation.proofs.Quiet.Slots as slots
 use Rattle.xr_simulation.proofs.Par.Resumes.{nobody_tied, taken}
 
@@ -114,6 +116,11 @@ module _ (moment : Moment none_rests)
     not_made : (left : CoreState) (made : Option Record) → slot (home g r) a r.thread ≡ Made left made [] → ⊥
     not_made left made h = slots.not_made thread_at quiet left made h
 
+    -- so a select waits
+    select_cannot : (j : ℕ) → SelectGoes g r j now → CannotAct g r x.state
+    select_cannot j (inl (p, cannot)) = cannot
+    select_cannot j (inr h) = absurd (not_made h.left h.made h.made_is)
+
     -- so its turn is a pause, or it waits for a word, and the branch waits
     turn_cannot : (j : ℕ) → r.transfer ≡ None → NextStep g r j now → CannotAct g r x.state
     turn_cannot j none (pauses p cannot) = cannot
@@ -123,6 +130,7 @@ module _ (moment : Moment none_rests)
     turn_cannot j none (waits_tied h) = absurd (not_made h.left None h.made_is)
     turn_cannot j none (begins h) = absurd (not_made _ None h.goes)
     turn_cannot j none (communicates (puts_out o v) h) = absurd (offers_goes moment quiet thread_at j none o v h)
+    turn_cannot j none (at_select h) = select_cannot j (selects_alike thread_at none j h)
     turn_cannot j none (communicates (takes_in i) h) = takes_in_cannot moment quiet thread_at j none i h
 
     -- no step on the way to somewhere is left

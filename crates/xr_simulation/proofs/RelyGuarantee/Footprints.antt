@@ -11,6 +11,7 @@ use Rattle.xc_kernel.specs.declared.statement.KRes.TheVariants.{Port, Timer, Cha
 use Rattle.xc_kernel.specs.Plain as kernel
 use Rattle.xc_kernel.specs.Things.{Thing, variable, change, port, timer, channel, by_read, by_change, by_resource, by_expression, by_operands, by_place, by_target, by_some_target, by_some_expression, by_condition, by_output, by_input, by_statement, by_statements, by_case, by_cases, by_default, by_branch, by_branches}
 use Rattle.xc_invariants.specs.Rules.{code_at}
+use Rattle.xc_invariants.specs.Sided.{BodyIs, DefaultIs, EachChoice}
 use Rattle.xc_meaning.specs.States.Items.{Body, of_kernel, of_text, Choice, Item, does, says, stores, stamps, mark, awaits, transaction_end, chooses, fixed, ends, todo}
 use Rattle.xc_meaning.specs.Uses.{by_body, by_choices, by_item, by_items, by_some_body}
 use Rattle.xc_meaning.proofs.Basics.{none_given, or_left, or_right, same_number, some_given}
@@ -19,7 +20,7 @@ use Rattle.xl_expr.specs.declared.plan.VarPlan.{VarPlan}
 use Rattle.xl_expr.specs.Frames.{HaveVars, variable_of}
 use Rattle.xl_expr.specs.Plans.{var_in}
 use Rattle.xl_plan.specs.Layout.{is_used_on}
-use Rattle.xr_simulation.specs.Fits.{AllFit, AsksRightly, BranchesFit, ChangesAt, FitOn, Fits, InputFits, IsChanged, ItemFits, ItemsFit, OutputFits, PutsOutAt, StampsAt, TakesInAt, Uses, UsesCondition, UsesAt, UsesSome}
+use Rattle.xr_simulation.specs.Fits.{AllFit, AsksRightly, BranchesFit, CasesFit, ChangesAt, CountedInputFits, DefaultFits, FitOn, Fits, InputFits, IsChanged, ItemFits, ItemsFit, OutputFits, PutsOutAt, StampsAt, TakesInAt, Uses, UsesCondition, UsesAt, UsesSome}
 use Rattle.xr_simulation.specs.Runners.{Activation, Footprint, Setting, Runner, IsChannel, IsPort, anyone, end_place, footprint_of, home, outside, places, plan, plan_in, shrunk}
 use Rattle.xr_simulation.specs.ThreadViews.{ThreadView, running}
 use Rattle.xr_simulation.specs.Transfers.{Transfer, acts_left, items_behind}
@@ -315,7 +316,8 @@ module _ (g : Setting) (r s : Runner) (same : s.core ≡ r.core) (block : s.bloc
     )
     statement_here (kernel.block m a) h k = all_here a h k
     statement_here (kernel.exit m) h k = tt
-    statement_here (kernel.select cs d pos) h k = tt
+    statement_here (kernel.select cs d pos) h k =
+        (cases_here cs h.0 (λ th u. k th (or_left _ _ u)), default_here d h.1 (λ th u. k th (or_right (by_cases th cs) _ u)), h.2)
     statement_here (kernel.par bs) h k = (branches_here bs h.0 k, h.1)
     statement_here (kernel.transaction c is_master a start close) h k = tt
 
@@ -323,10 +325,43 @@ module _ (g : Setting) (r s : Runner) (same : s.core ≡ r.core) (block : s.bloc
     all_here kernel.no_more h k = tt
     all_here (kernel.more t ss) h k = (statement_here t h.0 (λ th u. k th (or_left _ _ u)), all_here ss h.1 (λ th u. k th (or_right (by_statement th t) _ u)))
 
+    cases_here : (cs : kernel.Cases) → CasesFit g r cs → AreHad (λ th. by_cases th cs) → CasesFit g s cs
+    cases_here kernel.no_case h k = tt
+    cases_here (kernel.more_cases (kernel.case guard i ss) cs) h k = (
+      (
+        some_here guard h.0.0 (λ th u. k th (or_left _ _ (or_left (by_some_expression th guard) _ u))),
+        (input_here i h.0.1.0 (λ th u. k th (or_left _ _ (or_right (by_some_expression th guard) _ (or_left (by_input th i) _ u)))), h.0.1.1),
+        all_here ss h.0.2 (λ th u. k th (or_left _ _ (or_right (by_some_expression th guard) _ (or_right (by_input th i) _ u)))),
+      ),
+      cases_here cs h.1 (λ th u. k th (or_right (by_case th (kernel.case guard i ss)) _ u)),
+    )
+
+    default_here : (d : kernel.Default) → DefaultFits g r d → AreHad (λ th. by_default th d) → DefaultFits g s d
+    default_here kernel.no_default h k = tt
+    default_here (kernel.default ss) h k = all_here ss h k
+
     branches_here : (bs : kernel.Branches) → BranchesFit g r bs → AreHad (λ th. by_branches th bs) → BranchesFit g s bs
     branches_here kernel.no_branch h k = tt
     branches_here (kernel.more_branches (kernel.branch ss pos) bs) h k =
         (all_here ss h.0 (λ th u. k th (or_left _ _ u)), branches_here bs h.1 (λ th u. k th (or_right (by_statements th ss) _ u)))
+
+  -- of a select whose enabled cases are known, and of the input of one that was taken
+  body_here : (b : Body) → BodyIs (AllFit g r) b → AreHad (λ th. by_body th b) → BodyIs (AllFit g s) b
+  body_here (of_kernel ss) h k = all_here ss h k
+  body_here (of_text i) h k = absurd h
+
+  some_body_here : (b : Option Body) → DefaultIs (AllFit g r) b → AreHad (λ th. by_some_body th b) → DefaultIs (AllFit g s) b
+  some_body_here None h k = tt
+  some_body_here (Some b) h k = body_here b h k
+
+  choices_here : (cs : List Choice) → EachChoice (CountedInputFits g r) (AllFit g r) cs → AreHad (λ th. by_choices th cs) →
+      EachChoice (CountedInputFits g s) (AllFit g s) cs
+  choices_here [] h k = tt
+  choices_here (c ∷ cs) h k = (
+    (input_here c.input h.0.0 (λ th u. k th (or_left (by_input th c.input) _ u)), h.0.1),
+    body_here c.body h.1 (λ th u. k th (or_right (by_input th c.input) _ (or_left (by_body th c.body) _ u))),
+    choices_here cs h.2 (λ th u. k th (or_right (by_input th c.input) _ (or_right (by_body th c.body) _ u))),
+  )
 
   item_here : (i : Item) → ItemFits g r i → AreHad (λ th. by_item th i) → ItemFits g s i
   item_here (does t) h k = statement_here t h k
@@ -340,8 +375,9 @@ module _ (g : Setting) (r s : Runner) (same : s.core ≡ r.core) (block : s.bloc
   item_here (mark n) h k = tt
   item_here (awaits c pos) h k = channel_here c h
   item_here (transaction_end c is_master pos) h k = tt
-  item_here (chooses choices otherwise) h k = tt
-  item_here (fixed i w counter) h k = tt
+  item_here (chooses choices otherwise) h k =
+      (choices_here choices h.0 (λ th u. k th (or_left _ _ u)), some_body_here otherwise h.1 (λ th u. k th (or_right (by_choices th choices) _ u)))
+  item_here (fixed i w counter) h k = (input_here i h.0 k, h.1)
   item_here ends h k = tt
 
   items_here : (items : List Item) → ItemsFit g r items → AreHad (λ th. by_items th items) → ItemsFit g s items

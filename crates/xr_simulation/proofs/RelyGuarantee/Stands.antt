@@ -5,15 +5,20 @@ use Rattle.xs_instr.specs.declared.state.CoreState.{CoreState}
 use Rattle.xs_instr.specs.declared.state.Regs.{Regs}
 use Rattle.xs_instr.specs.declared.state.Res.{Res}
 use Rattle.xs_instr.specs.declared.state.Res.TheVariants.{End as ResEnd, Port as ResPort, Timer as ResTimer}
-use Rattle.xc_kernel.specs.declared.statement.KRes.TheVariants.{Port, Timer, Chan}
 use Rattle.xc_kernel.specs.declared.kernel.PortUse.{PortUse}
+use Rattle.xc_kernel.specs.declared.kernel.Timer.{Timer as TimerUse}
+use Rattle.xc_kernel.specs.declared.statement.KRes.{KRes}
+use Rattle.xc_kernel.specs.declared.statement.KRes.TheVariants.{Port, Timer, Chan}
 use Rattle.xc_meaning.specs.States.Items.{Item, does, says, stores, stamps, mark, awaits, transaction_end, chooses, fixed, ends}
+use Rattle.xl_expr.specs.ResourceParts.{resource_state}
 use Rattle.xl_expr.proofs.ResourceParts.{port_same}
 use Rattle.xl_statements.specs.Pieces.{Exit}
-use Rattle.xr_simulation.specs.Fits.{ItemsFit}
-use Rattle.xr_simulation.specs.Runners.{Footprint, IsMine, IsPort, Setting, Runner, port_place}
+use Rattle.xr_events.specs.Latches.{HasLatched}
+use Rattle.xr_events.proofs.Lasting.{latch_stays}
+use Rattle.xr_simulation.specs.Fits.{ItemsFit, TakesInAt}
+use Rattle.xr_simulation.specs.Runners.{Footprint, IsMine, IsPort, IsTimer, Setting, Runner, port_place, timer_place}
 use Rattle.xr_simulation.specs.Transfers.{Transfer}
-use Rattle.xr_simulation.specs.NextStep.{ItemsFrom, SameParts, IsPlacedAt, is_port_number, stands_on_part}
+use Rattle.xr_simulation.specs.NextStep.{ItemsFrom, SameParts, IsPlacedAt, is_latched_by, is_port_number, is_timer_number, resources_here, stands_on_part}
 
 module _ (g : Setting) (r : Runner) where
   -- a port that the runner has is its own
@@ -21,6 +26,28 @@ module _ (g : Setting) (r : Runner) where
   port_own p listed is (ResPort n) e = record { port = p; listed = listed; is = is; place = sym (eqb-true (port_place g r p) n e) }
   port_own p listed is (ResTimer n) e = absurd (cc)
   port_own p listed is (ResEnd n) e = absurd (cc)
+
+  -- and so is a timer
+  timer_own : (t : ℕ) (listed : TimerUse) → IsTimer g r t listed → (part : Res) → is_timer_number (timer_place g r t) part ≡ true → IsMine g r part
+  timer_own t listed is (ResPort n) e = absurd (cc)
+  timer_own t listed is (ResTimer n) e = record { timer = t; listed = listed; is = is; place = sym (eqb-true (timer_place g r t) n e) }
+  timer_own t listed is (ResEnd n) e = absurd (cc)
+
+  -- what latches something for an input
+  latched_own : (res : KRes) (part : Res) → TakesInAt g r res → is_latched_by g r.core res part ≡ true → IsMine g r part
+  latched_own (Port p) part from on = port_own p from.listed from.is part on
+  latched_own (Timer t) part from on = timer_own t from.listed from.is part on
+  latched_own (Chan c) part from on = absurd (cc)
+
+  -- it has the same latch in another core that has the same of it
+  latched_kept : (res : KRes) (v counter : ℕ) (a b : CoreState) →
+      ((part : Res) → is_latched_by g r.core res part ≡ true → resource_state b part ≡ resource_state a part) →
+      HasLatched (resources_here g r) a res v counter → HasLatched (resources_here g r) b res v counter
+  latched_kept (Port p) v counter a b same h =
+      latch_stays (resources_here g r) a b (Port p) v counter (same (ResPort (port_place g r p)) (eq-eqb (port_place g r p) (port_place g r p) refl)) h
+  latched_kept (Timer t) v counter a b same h =
+      latch_stays (resources_here g r) a b (Timer t) v counter (same (ResTimer (timer_place g r t)) (eq-eqb (timer_place g r t) (timer_place g r t) refl)) h
+  latched_kept (Chan c) v counter a b same h = h
 
   -- what the runner stands on is its own
   pub parts_own : (items : List Item) (part : Res) → ItemsFit g r items → stands_on_part g r.core items part ≡ true → IsMine g r part
@@ -37,7 +64,7 @@ module _ (g : Setting) (r : Runner) where
   parts_own (awaits n pos ∷ rest) part fits on = absurd (cc)
   parts_own (transaction_end n is_master pos ∷ rest) part fits on = absurd (cc)
   parts_own (chooses choices otherwise ∷ rest) part fits on = absurd (cc)
-  parts_own (fixed i v counter ∷ rest) part fits on = absurd (cc)
+  parts_own (fixed i v counter ∷ rest) part fits on = latched_own i.resource part fits.0.0.from on
   parts_own (ends ∷ rest) part fits on = absurd (cc)
 
   -- where the code of items stands
@@ -54,7 +81,7 @@ module _ (g : Setting) (r : Runner) where
   items_stand (awaits c pos ∷ rest) exits pc j regs core h = (exits, h)
   items_stand (transaction_end c is_master pos ∷ rest) exits pc j regs core h = (exits, h)
   items_stand (chooses choices otherwise ∷ rest) exits pc j regs core h = (exits, h)
-  items_stand (fixed i v counter ∷ rest) exits pc j regs core h = (exits, h)
+  items_stand (fixed i v counter ∷ rest) exits pc j regs core h = absurd h.stands
   items_stand (ends ∷ rest) exits pc j regs core h = (exits, h)
 
   -- it stands so in another core too that has the same of the parts on which it stands
@@ -82,7 +109,8 @@ module _ (g : Setting) (r : Runner) where
   stands_kept (awaits c pos ∷ rest) j pc regs a b same h = h
   stands_kept (transaction_end c is_master pos ∷ rest) j pc regs a b same h = h
   stands_kept (chooses choices otherwise ∷ rest) j pc regs a b same h = h
-  stands_kept (fixed i v counter ∷ rest) j pc regs a b same h = h
+  stands_kept (fixed i v counter ∷ rest) j pc regs a b same (entered, exits, latch, lines, behind) =
+      (entered, exits, latched_kept i.resource v counter a b same latch, lines, behind)
   stands_kept (ends ∷ rest) j pc regs a b same h = h
 
   -- The same runner with another footprint, or in another transfer.
