@@ -11,7 +11,7 @@ ghost use Rattle.xl_flow.specs.Zeros.{room_of};
 use crate::expressions::{NAME, expression, number, place};
 use crate::machine::{add, add_expression, begun, finished};
 use crate::places::MEMORY;
-use crate::transfers::{add_port_in, add_port_out, add_timer_in};
+use crate::transfers::{add_entry, add_port_in, add_port_out, add_timer_in};
 use crate::trouble::Trouble;
 use std::alloc::Global;
 use xc_kernel::{Kx, Place};
@@ -48,6 +48,7 @@ fn add_step(alloc: Global, e: &mut Emitter, plan: &Plan, step: &str) -> Result<(
         "out" => add_port_out(alloc, e, plan, rest),
         "in" => add_port_in(alloc, e, plan, rest),
         "timer" => add_timer_in(alloc, e, plan, rest),
+        "enter" => add_entry(alloc, e, plan, rest),
         "while" => add_loop(alloc, e, plan, rest),
         "pass" => add_pass(alloc, e, plan, rest),
         _ => Err(Trouble::Line),

@@ -1,4 +1,4 @@
-//! Transfers as the cases write them: outputs to ports, and inputs from ports and timers.
+//! Transfers as the cases write them: outputs to ports, inputs from ports and timers, and where the case of a select begins.
 
 ghost use Rattle.std.specs.Prelude.{◌≤◌, length, option_map, IfOk, OnOk};
 ghost use Rattle.xc_kernel.specs.Kernels.{condition_of, expression_of, input_of, output_of as plain_output, place_of};
@@ -15,6 +15,7 @@ use xc_kernel::{KHead, KOut, KRes, Kx, Place};
 use xc_tree::words::{PINSEQ_WORD, PINSNEQ_WORD, TIMERAFTER_WORD};
 use xl_expr::Plan;
 use xl_port::{emit_port_in, emit_port_out, emit_timer_in};
+use xl_select::open_case;
 use xs_instr::Emitter;
 
 /// What may stand behind the port or timer of a transfer, as text.
@@ -66,6 +67,22 @@ pub fn add_timer_in(alloc: Global, e: &mut Emitter, plan: &Plan, text: &str) -> 
     }
     let head = head_of(alloc, KRes::Timer(number(timer)?), parts)?;
     let added = emit_timer_in(e, plan, &head);
+    drop(head);
+    Ok(added?)
+}
+
+/// `PORT`, and `to PLACE` and `stamp PLACE` behind it.
+pub fn add_entry(alloc: Global, e: &mut Emitter, plan: &Plan, text: &str) -> Result<(), Trouble>
+    requires few { length e.old ≤ 2000 }
+    requires aimed { AreAimed 0 e.old }
+    ensures aimed { OnOk result (AreAimed 0 e.new) }
+{
+    let (port, parts) = parted(text)?;
+    if parts.time.is_some() || parts.condition.is_some() {
+        return Err(Trouble::Line);
+    }
+    let head = head_of(alloc, KRes::Port(number(port)?), parts)?;
+    let added = open_case(e, plan, &head, 0, true);
     drop(head);
     Ok(added?)
 }
