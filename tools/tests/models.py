@@ -136,6 +136,24 @@ def outside():
     return [(1000 + 100 * i, "8A", i * i) for i in range(4)]
 
 
+PACKETS = [(2000, b"Hi"), (30000, b"XC")]
+
+
+def frames_of(start, text):
+    """What drives a wire that sends these bytes without a pause: a start bit, eight bits, the lowest first, and a stop bit."""
+    bits = "".join("0" + f"{byte:08b}"[::-1] + "1" for byte in text)
+    return [(start + 868 * i, "1A", int(bit)) for i, bit in enumerate(bits)]
+
+
+def packets():
+    made = [Read(1000, "1B", 1)]
+    for start, text in PACKETS:
+        for i, (tick, _, bit) in enumerate(frames_of(start, text)):
+            made.append(Read(tick if i % 10 == 0 else tick + 434, "1B", bit))  # the edge of a start bit, else the middle
+        made += [(made[-1].tick + 5000 + 200 * i, "8A", byte) for i, byte in enumerate(text, 1)]
+    return made
+
+
 def producer():
     numbers = [12]
     while numbers[-1] != 1:
@@ -170,8 +188,18 @@ def search():
 
 
 def serial():
-    frames = "".join("0" + f"{byte:08b}"[::-1] + "1" for byte in b"Hi!")
-    return [(1000, "1A", 1), *((2000 + 868 * i, "1A", int(bit)) for i, bit in enumerate(frames))]
+    return [(1000, "1A", 1), *frames_of(2000, b"Hi!")]
+
+
+def server():
+    asked = sorted((first + i * pause, port) for first, pause, port in [(1000, 3000, "8A"), (2000, 12000, "8B")] for i in range(3))
+    made, asleep = [], 0  # since when the server sleeps, or from when on where nobody asks before
+    for number, (tick, port) in enumerate(asked, 1):
+        slept = asleep < tick
+        made += [(asleep + 200, "1A", 0)] if slept and asleep else []
+        made += [taken(tick), taken(number), *([(tick + 200, "1A", 1)] if slept else []), (tick + 500, port, number)]
+        asleep = tick + 5000
+    return [*made, (asleep + 200, "1A", 0)]
 
 
 def sieve():
@@ -193,6 +221,22 @@ def sort():
     return before + [(8000 + 100 * i, "32A", number) for i, number in enumerate(sorted(numbers))]
 
 
+# pressed, once more while the light is lit and once while it is dim; pressed and held when it is out again
+STAIRCASE = [(2000, 1), (2400, 0), (6000, 1), (6500, 0), (15000, 1), (15400, 0), (30000, 1), (34000, 0)]
+
+
+def staircase():
+    made, ends = [], []
+    for tick, level in STAIRCASE:
+        made += [(end + 100, "4A", lamps) for end, lamps in ends if end < tick]
+        ends = [it for it in ends if it[0] > tick]
+        made.append(Read(tick, "1B", level))
+        if level:
+            made.append((tick + 100, "4A", 3))
+            ends = [(tick + 8000, 1), (tick + 10000, 0)]
+    return made + [(end + 100, "4A", lamps) for end, lamps in ends]
+
+
 MODELS = {
     "bits": bits,
     "button": button,
@@ -205,17 +249,26 @@ MODELS = {
     "lights": lights,
     "meter": meter,
     "outside": outside,
+    "packets": packets,
     "producer": producer,
     "receiver": receiver,
     "ring": ring,
     "search": search,
     "serial": serial,
+    "server": server,
     "sieve": sieve,
     "sort": sort,
+    "staircase": staircase,
 }
 
 # the edges of the wire at port 1B, of the examples that read it
-STIMULI = {"button": BUTTON, "meter": METER, "receiver": edges_of(serial())}
+STIMULI = {
+    "button": BUTTON,
+    "meter": METER,
+    "packets": edges_of([(1000, "1A", 1), *(bit for start, text in PACKETS for bit in frames_of(start, text))]),
+    "receiver": edges_of(serial()),
+    "staircase": STAIRCASE,
+}
 
 # what stands behind the outputs, where the program doesn't just finish
 ENDS = {"outside": "err 0 12:5 index\nend trapped\n"}

@@ -213,10 +213,11 @@ class Texts(unittest.TestCase):
 
     def test_waiting(self):
         changes = ["20000 0 1A 1", "20001 0 1B 1", "20002 0 1C 1", "20003 0 1D 1", "40000 0 1A 0", "40002 0 1B 0"]
-        self.assertEqual(xc.edges("seldom", 40_003).splitlines(), changes)
-        read = read_stimulus(io.BytesIO(xc.edges("often", 200_000).encode()), "often")
+        self.assertEqual(xc.edges(xc.PACES["seldom"], 40_003).splitlines(), changes)
+        read = read_stimulus(io.BytesIO(xc.edges(xc.PACES["often"], 200_000).encode()), "often")
         self.assertEqual(len(read), sum(200_000 // step for step in range(30, 34)))
         self.assertTrue(xc.waits("often").startswith("#define STEP 30\nin port a"))
+        self.assertTrue(xc.selects("seldom").startswith("#define STEP 20000\nin port a"))
 
 
 class Codes(unittest.TestCase):

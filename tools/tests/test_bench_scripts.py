@@ -34,7 +34,8 @@ esac
 BUILD = "#!/bin/sh\nmkdir -p crates/$1/out; cp '{programs}/'$1 crates/$1/out/\n"
 VALGRIND = '#!/bin/sh\nfor last; do :; done\n[ "$last" = 0 ] && echo "==1== Collected : 1000" >&2 || echo "==1== Collected : 21000" >&2\n'
 XT_PROGRAMS = "#!/bin/sh\nif grep -q copies listings.txt; then echo a case is too long; else echo listings.txt: 1 cases, 0 differ; fi\n"
-XCSIM = "#!/bin/sh\ncase $1 in\nasm) printf '0: LDC r0, 1 @1:1\\n1: BRBU 0 @1:1\\n' ;;\n*) exit 4 ;;\nesac\n"
+XCSIM = "#!/bin/sh\ncase $1 in\ncheck) ;;\nasm) printf '0: LDC r0, 1 @1:1\\n1: BRBU 0 @1:1\\n' ;;\n*) exit 4 ;;\nesac\n"
+REFUSES = "#!/bin/sh\necho \"$2:1:1: rule 299\" >&2\nexit 1\n"
 WANTS = r"""
 #include <stdlib.h>
 #include <unistd.h>
@@ -56,6 +57,7 @@ class Scripts(unittest.TestCase):
         cls.top, programs = (os.path.join(cls.room.name, it) for it in ("top", "programs"))
         shutil.copytree(os.path.join(TOP, "bench"), os.path.join(cls.top, "bench"), ignore=shutil.ignore_patterns("*.jsonl"))
         shutil.copytree(os.path.join(TOP, "examples"), os.path.join(cls.top, "examples"))
+        os.symlink(os.path.join(TOP, "docs"), os.path.join(cls.top, "docs"))
         for name in os.listdir(os.path.join(TOP, "crates")):
             os.makedirs(os.path.join(cls.top, "crates", name))
         for path in (("xc_disjoint", "src"), ("xt_front", "proofs"), ("xt_core", "data")):
@@ -96,7 +98,7 @@ class Scripts(unittest.TestCase):
     def test_help(self):
         """Each tells its words, and README has a row for each."""
         names = sorted(it.name for it in os.scandir(os.path.join(TOP, "bench")) if it.is_file() and "." not in it.name)
-        self.assertEqual(len(names), 15)
+        self.assertEqual(len(names), 17)
         for name in names:
             self.assertIn(f"usage: bench/{name} ", self.call(name, "--help"))
         self.assertEqual(sorted(re.findall(r"^\| `(\w+)", written(os.path.join(TOP, "bench", "README.md")), re.MULTILINE)), names)
@@ -168,6 +170,15 @@ class Scripts(unittest.TestCase):
         rows = self.tables("run")["programs"]
         self.assertEqual([(row["program"], row["status"]) for row in rows], [("empty", 4), ("busy", 4), ("full", 4)])
 
+    def test_fuzz(self):
+        """The program that stands here answers nothing as it should."""
+        with tempfile.TemporaryDirectory() as folder:
+            found = self.tables("fuzz", "--cases", "3", "--shrink", "1", "--keep", folder, status=1)
+            self.assertEqual([found["all"][0][it] for it in ("seed", "cases", "failed")], [1, 3, 3])
+            self.assertEqual(sorted(os.listdir(folder)), ["1-0", "1-1", "1-2"])
+            again = os.path.join(folder, "1-2", "smaller", "case.json")
+            self.assertRegex(self.call("fuzz", "--again", again, status=1), r"\Awrong, ")
+
     def test_programs(self):
         found = self.tables("programs")
         self.assertEqual([len(rows) for rows in found.values()], [6, 3, 2])
@@ -179,6 +190,23 @@ class Scripts(unittest.TestCase):
         self.assertEqual([row["waits"] for row in rows], ["often", "seldom"])
         self.assertIn("here, ms", rows[0])
 
+    def test_selects(self):
+        rows = self.tables("selects")["eight threads"]
+        self.assertEqual([row["waits"] for row in rows], ["often", "seldom"])
+        self.assertIn("here, ms", rows[0])
+
+    def test_selects_that_are_refused(self):
+        """Then nothing is stored."""
+        built = ("crates", "xcsim", "out", "xcsim")
+        self.addCleanup(self.put, written(os.path.join(self.top, *built)), self.top, *built)
+        self.put(REFUSES, self.top, *built)
+        stored = os.path.join(self.top, "bench", "results", "selects.jsonl")
+        before = written(stored) if os.path.exists(stored) else ""
+        done = subprocess.run([f"{self.top}/bench/selects"], capture_output=True, text=True, check=False)
+        self.assertEqual((done.returncode, done.stdout), (1, ""))
+        self.assertRegex(done.stderr, r"\Abench/selects: xcsim refuses the program, and nothing was measured: .*:1:1: rule 299\n\Z")
+        self.assertEqual(written(stored) if os.path.exists(stored) else "", before)
+
     @unittest.skipUnless(shutil.which("cc") and shutil.which("gcc"), "there is no C compiler")
     def test_with_an_interpreter(self):
         """Which gcc compiles."""
@@ -188,7 +216,8 @@ class Scripts(unittest.TestCase):
         found = self.tables("programs", source)
         self.assertEqual(found["loops"][0]["interpreter's"], 320.0)
         self.assertIn("interpreter, ms", found["eight threads"][0])
-        self.assertEqual(self.tables("waiting", source)["eight threads"][0]["same trace"], "yes")
+        for name in ("waiting", "selects"):
+            self.assertEqual(self.tables(name, source)["eight threads"][0]["same trace"], "yes")
 
     @unittest.skipUnless(shutil.which("cc"), "there is no C compiler")
     def test_refuse_memory(self):

@@ -126,9 +126,11 @@ class Pages(unittest.TestCase):
         self.assertTrue(written(example("meter.trace")).startswith(records))
 
     def test_what_the_gate_runs_of_the_language(self):
-        shown = re.search(r"## Inputs and timers.*?```\n(.*?)```.*?```\n(.*?)```.*?```\n(.*?)```", self.page("docs", "language.md"), re.DOTALL).groups()
-        marked = ["".join(f"{mark} {line}\n" for line in part.splitlines()) for mark, part in zip(("|", "stim", "="), shown)]
-        self.assertIn("case the example of docs/language.md\n" + "".join(marked), self.page("crates", "xt_programs", "data", "inputs.txt"))
+        page = self.page("docs", "language.md")
+        for section, cases in (("Inputs and timers", "inputs.txt"), ("Selects", "selects.txt")):
+            shown = re.search(rf"## {section}.*?```\n(.*?)```.*?```\n(.*?)```.*?```\n(.*?)```", page, re.DOTALL).groups()
+            marked = ["".join(f"{mark} {line}\n" for line in part.splitlines()) for mark, part in zip(("|", "stim", "="), shown)]
+            self.assertIn("case the example of docs/language.md\n" + "".join(marked), self.page("crates", "xt_programs", "data", cases))
 
     def test_pictures(self):
         self.assertEqual(drawn(text=output_of_example("bus")), self.page("docs", "bus.svg"))
