@@ -12,7 +12,7 @@ from typing import Optional
 from .clang import size_by_clang, size_of_listing
 from .scratch import TOP, write
 from .timing import Run, least, run
-from .xc import EIGHT, LOOPS, edges, endless, long_program, waits
+from .xc import EIGHT, LOOPS, PACES, SELECT_PACES, edges, endless, long_program, selects, waits
 
 TICKS = 200_000
 
@@ -89,10 +89,26 @@ def eight_row(name: str, room: str, interpreter: Optional[str]) -> dict:
 
 def waiting_row(pace: str, room: str, interpreter: Optional[str]) -> dict:
     """How long the program of threads that wait takes at a pace, under its stimulus, and whether the interpreter writes the same trace."""
-    calls = calls_of(waits(pace), edges(pace, TICKS), room, interpreter)
+    return {"waits": pace, **compared(calls_of(waits(pace), edges(PACES[pace], TICKS), room, interpreter))}
+
+
+def select_row(pace: str, room: str, interpreter: Optional[str]) -> dict:
+    """The same of the program of threads in selects."""
+    return {"waits": pace, **compared(calls_of(selects(pace), edges(SELECT_PACES[pace], TICKS), room, interpreter))}
+
+
+def refusal(text: str, room: str) -> str:
+    """What xcsim says where it refuses a text; nothing where it accepts it."""
+    path = os.path.join(room, "refused.xc")
+    write(text, path)
+    return run([xcsim(), "check", path], (0, 1)).errors.strip()
+
+
+def compared(calls: dict[str, list[str]]) -> dict:
+    """How long these calls take, and where the interpreter's is among them whether its trace is the same."""
     traces = {run([*words, "--ticks", str(TICKS)], ()).output.partition("trace\n")[2] for words in calls.values()}
-    same = {"same trace": "yes" if len(traces) == 1 else "no"} if interpreter else {}
-    return {"waits": pace, **raced(calls), **same}
+    same = {"same trace": "yes" if len(traces) == 1 else "no"} if len(calls) > 1 else {}
+    return {**raced(calls), **same}
 
 
 def calls_of(text: str, stimulus: str, room: str, interpreter: Optional[str]) -> dict[str, list[str]]:

@@ -45,6 +45,20 @@ WAITS = (
 )
 PACES = {"often": 30, "seldom": 20_000}
 
+# Eight threads in selects, each with a timer of its own: four of them also watch a wire, two give words to two others, which wait for these.
+SELECTS = (
+    "in port a = XS1_PORT_1A;\nin port b = XS1_PORT_1B;\nin port c = XS1_PORT_1C;\nin port d = XS1_PORT_1D;\n"
+    "void watch(in port wire, unsigned step) { timer t; unsigned time = step; int level = 0; while (1) { select {"
+    " case wire when pinsneq(level) :> level: break; case t when timerafter(time) :> void: time += step; break; } } }\n"
+    "void give(chanend to, unsigned step) { timer t; unsigned time = step; while (1) { select {"
+    " case t when timerafter(time) :> void: to <: time; time += step; break; } } }\n"
+    "void take(chanend from, unsigned step) { timer t; unsigned time = step, x, sum = 0; while (1) { select {"
+    " case from :> x: sum += x; break; case t when timerafter(time) :> void: time += step; break; } } }\n"
+    "int main(void) { chan e, f; par { watch(a, STEP); watch(b, STEP + 1); watch(c, STEP + 2); watch(d, STEP + 3);"
+    " give(e, STEP + 4); take(e, STEP + 5); give(f, STEP + 6); take(f, STEP + 7); } return 0; }\n"
+)
+SELECT_PACES = {"often": 200, "seldom": 20_000}  # to set a select up takes some 30 ticks
+
 # Right sides of assignments.
 EXPRESSIONS = (
     "x", "x + y", "x - 1", "-x", "!x", "x * y + 1", "x - (y - x)", "(x + y) * (x - y)", "x / y", "x >> 3", "x < y", "x <= y", "u >= v", "x && y",
@@ -58,9 +72,14 @@ def waits(pace: str) -> str:
     return f"#define STEP {PACES[pace]}\n{WAITS}"
 
 
-def edges(pace: str, ticks: int) -> str:
-    """The stimulus of its wires up to a tick: each changes at the multiples of its own number of ticks, which differ by one."""
-    steps = {wire: PACES[pace] + at for at, wire in enumerate("ABCD")}
+def selects(pace: str) -> str:
+    """The program of threads in selects at this pace."""
+    return f"#define STEP {SELECT_PACES[pace]}\n{SELECTS}"
+
+
+def edges(step: int, ticks: int) -> str:
+    """The stimulus of their wires up to a tick: each changes at the multiples of its own number of ticks, the first of so many and each of one more."""
+    steps = {wire: step + at for at, wire in enumerate("ABCD")}
     found = sorted((tick, wire) for wire, step in steps.items() for tick in range(step, ticks + 1, step))
     return "".join(f"{tick} 0 1{wire} {tick // steps[wire] % 2}\n" for tick, wire in found)
 
