@@ -1,5 +1,6 @@
 pub mod Cells
 pub mod Built
+pub mod CaseEnds
 pub mod Emits
 pub mod Branches
 pub mod Landing

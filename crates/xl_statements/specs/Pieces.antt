@@ -22,6 +22,10 @@ use Rattle.xl_port.specs.Inputs.{Inputs}
 use Rattle.xl_port.specs.Outputs.{Outputs}
 use Rattle.xl_port.specs.TimerInputs.{TimerInputs}
 use Rattle.xl_ends.specs.Ends.{Sides, codes_in, end_at}
+use Rattle.xl_select.specs.Entry.{EntersCase}
+use Rattle.xl_select.specs.Opening.{Opens as OpensSelect, default_targets}
+use Rattle.xl_select.specs.OpeningCode.{case_count, is_default}
+use Rattle.xl_statements.specs.CaseEnds.{case_end, case_ends}
 
 -- an open block, and the index where it ends
 pub record Exit : Type 0 where
@@ -108,6 +112,28 @@ module _ (code : Code) where
     ParOf (kernel.more_branches b bs) First Slaves pc pc' =
         SeveralAt (branch_count (kernel.more_branches b bs)) First Slaves pc pc'
 
+    -- a case's code, from where its event leads to the select's end: what it begins with, its body, and at most one jump
+    pub record CaseFrom (Enters : ℕ → List Line → Type 0) (Body : (pc pc' : ℕ) → Type 0) (pc end : ℕ) : Type 0 where
+      pub entered : ℕ
+      pub done : ℕ
+      pub jumps : ℕ
+      pub enters : LinesAt Enters pc entered
+      pub body : Body entered done
+      pub past : Jumps jumps done end
+      pub at_most_one : jumps ≤ 1
+
+    -- What opens a select stands at an index, with the targets of its cases' events and of its default, and there their code begins.
+    pub record SelectAt
+        (ends : List ℕ) (cases : kernel.Cases) (otherwise : Bool) (pos : Pos) (Cases : (targets : List ℕ) → (end : ℕ) → Type 0)
+        (pc pc' : ℕ) : Type 0 where
+      pub lines : List Line
+      pub targets : List ℕ
+      pub default_target : ℕ
+      pub as_many : length targets ≡ case_count cases
+      pub stand : StandAt code pc (filled lines (targets ++ default_targets otherwise default_target))
+      pub opens : OpensSelect plan ends cases otherwise pos pc lines
+      pub cases_at : Cases (targets ++ default_targets otherwise default_target) pc'
+
     -- The code of a transfer over a channel, by the end that the code around it uses. Where that stands in no side of the channel, it has none.
     abbrev pub ByEndAt : (P : (end : ℕ) → ℕ → List Line → Type 0) → Option ℕ → (pc pc' : ℕ) → Type 0
     ByEndAt P None pc pc' = pc ≡ pc'
@@ -135,19 +161,34 @@ module _ (code : Code) where
       PieceAt sides (kernel.if_then x a b) exits pc pc' =
           (first : ℕ) × (second : ℕ) × (done : ℕ) × (n : ℕ) × TestAt x pc first second
           × PiecesAt sides a exits first done × Jumps n done pc' × (n ≤ 1) × PiecesAt sides b exits second pc'
-      -- the test leaves the loop where its word is 0, and behind each turn a jump leads back to it
+      -- the test leaves the loop where its word is 0, and behind each iteration a jump leads back to it
       PieceAt sides (kernel.loop x a b) exits pc pc' =
           (body : ℕ) × (next : ℕ) × (done : ℕ) × TestAt x pc body pc'
           × PiecesAt sides a exits body next × PiecesAt sides b exits next done × Jumps 1 done pc
       PieceAt sides (kernel.block n a) exits pc pc' = PiecesAt sides a (record { block = n; index = pc' } ∷ exits) pc pc'
       PieceAt sides (kernel.exit n) exits pc pc' =
           (end : ℕ) × (exit_of exits n ≡ Some end) × (slice_get code.instrs pc ≡ Some (Brfu end)) × (pc' ≡ pc + 1)
+      PieceAt sides (kernel.select cs otherwise pos) exits pc pc' =
+          SelectAt (case_ends plan.channels sides cs) cs (is_default otherwise) pos (CasesAt sides exits otherwise cs) pc pc'
       PieceAt sides (kernel.par bs) exits pc pc' = ParAt sides bs pc pc'
       PieceAt sides other exits pc pc' = ⊥
 
       pub PiecesAt : Sides → kernel.Statements → List Exit → (pc pc' : ℕ) → Type 0
       PiecesAt sides kernel.no_more exits pc pc' = pc ≡ pc'
       PiecesAt sides (kernel.more s ss) exits pc pc' = (p : ℕ) × PieceAt sides s exits pc p × PiecesAt sides ss exits p pc'
+
+      -- a select's cases and then its default, by where they begin and where the select ends; the blocks around it are open in them
+      pub CasesAt : Sides → List Exit → kernel.Default → kernel.Cases → (targets : List ℕ) → (end : ℕ) → Type 0
+      CasesAt sides exits otherwise kernel.no_case targets end = DefaultFrom sides exits otherwise targets end
+      CasesAt sides exits otherwise (kernel.more_cases (kernel.case guard i ss) cs) targets end =
+          (target : ℕ) × (later : List ℕ) × (targets ≡ target ∷ later)
+          × CaseFrom (EntersCase plan i (case_end plan.channels sides i.resource) true) (PiecesAt sides ss exits) target end
+          × CasesAt sides exits otherwise cs later end
+
+      pub DefaultFrom : Sides → List Exit → kernel.Default → (targets : List ℕ) → (end : ℕ) → Type 0
+      DefaultFrom sides exits kernel.no_default targets end = targets ≡ []
+      DefaultFrom sides exits (kernel.default ss) targets end =
+          (target : ℕ) × (targets ≡ target ∷ []) × PiecesAt sides ss exits target end
 
       -- the branches of a `par`; no block around it is open in them
       pub ParAt : Sides → kernel.Branches → (pc pc' : ℕ) → Type 0
