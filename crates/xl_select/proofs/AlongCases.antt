@@ -36,7 +36,7 @@ none_in (wrong kind pos) = refl
 same_number : (a b : ℕ) → nat_eq a b ≡ true → a ≡ b
 same_number a b h = eqb-true a b h
 
-same_is : (a b : KRes) → same_resource a b ≡ true → a ≡ b
+pub same_is : (a b : KRes) → same_resource a b ≡ true → a ≡ b
 same_is (Port p) (Port q) h = ap Port (same_number p q h)
 same_is (Timer t) (Timer u) h = ap Timer (same_number t u h)
 same_is (Chan c) (Chan d) h = ap Chan (same_number c d h)

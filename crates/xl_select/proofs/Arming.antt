@@ -1,4 +1,4 @@
--- Behind the clearing nothing is set up, and one case more is set up by its setting, its vector and its enabling.
+-- Behind the clearing nothing is set up, and one case more is set up once its resource is set, has its vector, and is enabled.
 use Rattle.std.proofs.Common.{◌≡◌, ◌≢◌, ◌⊎◌, ℕ, zero, suc, inl, inr, List, [], ◌∷◌, ◌++◌, length, Some, refl, sym, ap, ◌∙◌, subst, ⊎_elim}
 use Rattle.std.specs.Prelude.{slice_get}
 use Rattle.std.proofs.lemmas.Bool.{cases_eq}
@@ -8,13 +8,13 @@ use Rattle.xs_instr.specs.declared.state.Events.{Events}
 use Rattle.xs_instr.specs.declared.state.Res.{Res}
 use Rattle.xs_instr.specs.declared.state.Res.TheVariants.{Port as ResPort, Timer as ResTimer, End as ResEnd}
 use Rattle.xs_instr.specs.declared.state.Watch.{Watch}
-use Rattle.xs_instr.specs.Events.{cleared, enabled, vector_in, vector_of, vector_set, watch_of}
+use Rattle.xs_instr.specs.Events.{cleared, enabled, vector_in, vector_of, watch_of}
 use Rattle.xc_kernel.specs.declared.statement.KRes.{KRes}
 use Rattle.xc_kernel.specs.Plain as kernel
 use Rattle.xc_meaning.specs.States.Items.{Choice, When}
 use Rattle.xl_expr.specs.ResourceParts.{IsEnabledFor, owner_in}
 use Rattle.xl_select.specs.Armed.{Armed, IsSetFor, LeadsTo}
-use Rattle.xl_select.proofs.Watching.{enabled_other, enabled_same, none_enabled, vector_other, vector_same}
+use Rattle.xl_select.proofs.Watching.{enabled_other, enabled_same, none_enabled}
 
 -- two resources are one or not
 pub same_or_not : (a b : Res) → (a ≡ b) ⊎ (a ≢ b)
@@ -58,23 +58,15 @@ module _ (places : KRes → Res) (t : ℕ) (cases : kernel.Cases) (targets : Lis
       none n c h = cc
 
   -- one more is
-  module _ (core core' : CoreState) (done : List Choice) (c : Choice) (k : ℕ) (w : Watch) (armed : Armed places t cases targets done core) (there : watch_of core.events (places c.input.resource) ≡ Some w) (events : core'.events ≡ enabled (vector_set core.events (places c.input.resource) k) (places c.input.resource) t) (apart : (n : ℕ) (d : Choice) → slice_get done n ≡ Some d → places d.input.resource ≢ places c.input.resource) (mine : IsSetFor core' c.when (places c.input.resource)) (others : (when : When) (res : Res) → res ≢ places c.input.resource → IsSetFor core when res → IsSetFor core' when res) (leading : LeadsTo cases targets c k) where
+  module _ (core core' : CoreState) (done : List Choice) (c : Choice) (k : ℕ) (w : Watch) (armed : Armed places t cases targets done core) (there : watch_of core.events (places c.input.resource) ≡ Some w) (vector : w.vector ≡ k) (events : core'.events ≡ enabled core.events (places c.input.resource) t) (apart : (n : ℕ) (d : Choice) → slice_get done n ≡ Some d → places d.input.resource ≢ places c.input.resource) (mine : IsSetFor core' c.when (places c.input.resource)) (others : (when : When) (res : Res) → res ≢ places c.input.resource → IsSetFor core when res → IsSetFor core' when res) (leading : LeadsTo cases targets c k) where
     abbrev at : Res
     at = places c.input.resource
 
-    abbrev set_up : Events
-    set_up = vector_set core.events at k
-
-    watch_here : watch_of core'.events at ≡ Some (record w { vector = k; owner = Some t })
-    watch_here =
-        ap (λ e. watch_of e at) events
-        ∙ enabled_same set_up at t (record w { vector = k }) (vector_same core.events at k w there)
+    watch_here : watch_of core'.events at ≡ Some (record w { owner = Some t })
+    watch_here = ap (λ e. watch_of e at) events ∙ enabled_same core.events at t w there
 
     watch_elsewhere : (res : Res) → res ≢ at → watch_of core'.events res ≡ watch_of core.events res
-    watch_elsewhere res ne =
-        ap (λ e. watch_of e res) events
-        ∙ enabled_other set_up at res t (record w { vector = k }) (vector_same core.events at k w there) ne
-        ∙ vector_other core.events at res k w there ne
+    watch_elsewhere res ne = ap (λ e. watch_of e res) events ∙ enabled_other core.events at res t w there ne
 
     abbrev Found : Res → Type 0
     Found res = (n : ℕ) × (d : Choice) × (slice_get (done ++ c ∷ []) n ≡ Some d) × (res ≡ places d.input.resource)
@@ -97,7 +89,7 @@ module _ (places : KRes → Res) (t : ℕ) (cases : kernel.Cases) (targets : Lis
     leads_by n d (inl h) = subst (LeadsTo cases targets d) (sym (ap vector_in (watch_elsewhere (places d.input.resource) (apart n d h)))) (armed.leads n d h)
     leads_by n d (inr e) =
         subst (λ (x : Choice). LeadsTo cases targets x (vector_of core'.events (places x.input.resource))) (sym e)
-        (subst (LeadsTo cases targets c) (sym (ap vector_in watch_here)) leading)
+        (subst (LeadsTo cases targets c) (sym (ap vector_in watch_here ∙ vector)) leading)
 
     pub armed_on : Armed places t cases targets (done ++ c ∷ []) core'
     armed_on = record {

@@ -33,7 +33,7 @@ good_closed size i [] h here = refl
 good_closed size i (l ∷ ls) h here =
     ap (λ (o : Bool). holes_on o here (holes_in ls (here + 1))) h.1 ∙ good_closed size (i + 1) ls h.2 (here + 1)
 
-plain_closed : (pos : Pos) (is : List Instr) (here : ℕ) → holes_in (at_pos pos is) here ≡ []
+pub plain_closed : (pos : Pos) (is : List Instr) (here : ℕ) → holes_in (at_pos pos is) here ≡ []
 plain_closed pos [] here = refl
 plain_closed pos (i ∷ is) here = plain_closed pos is (here + 1)
 
@@ -52,7 +52,7 @@ behind_closed a b here h g =
     ∙ g
     ∙ ap (λ k. k ∷ []) e
 
-value_closed : (vars : List (Option VarPlan)) (x : Option kernel.Expression) (here : ℕ) (last : Pos) → holes_in (value_lines vars x here last) here ≡ []
+pub value_closed : (vars : List (Option VarPlan)) (x : Option kernel.Expression) (here : ℕ) (last : Pos) → holes_in (value_lines vars x here last) here ≡ []
 value_closed vars x here last =
     let size = here + length (value_lines vars x here last) + 1 in
     good_closed size here (value_lines vars x here last) (value_good vars x size here last (omega arith)) here
@@ -83,7 +83,7 @@ module _ (plan : Plan) (end : ℕ) (i : kernel.Input) where
   flag_closed number true from here = refl
   flag_closed number false from here = refl
 
-  guard_closed : (flag : Flag) (guard : Option kernel.Expression) (here : ℕ) (last : Pos) → holes_in (guard_lines plan.vars flag i.pos guard here last) here ≡ []
+  pub guard_closed : (flag : Flag) (guard : Option kernel.Expression) (here : ℕ) (last : Pos) → holes_in (guard_lines plan.vars flag i.pos guard here last) here ≡ []
   guard_closed flag guard here last =
       let value = value_lines plan.vars guard here last in
       both_closed value (flag_lines flag i.pos (flag_source guard)) here (value_closed plan.vars guard here last)
@@ -95,13 +95,13 @@ module _ (plan : Plan) (end : ℕ) (i : kernel.Input) where
       let inner = timed_lines plan end flag i (here + 1) i.pos in
       behind_closed (line (with_target (Brff R0 0) (here + 1 + length inner)) i.pos ∷ []) inner here refl (timed_ends flag (here + 1) i.pos)
 
-  case_ends : (flag : Flag) (guard : Option kernel.Expression) (here : ℕ) (last : Pos) → EndsOpen here (case_lines plan end flag guard i here last)
+  pub case_ends : (flag : Flag) (guard : Option kernel.Expression) (here : ℕ) (last : Pos) → EndsOpen here (case_lines plan end flag guard i here last)
   case_ends flag guard here last =
       let front = guard_lines plan.vars flag i.pos guard here last in
       behind_closed front (guarded_lines guard i.pos (timed_lines plan end flag i) (here + length front) (last_or last front)) here (guard_closed flag guard here last)
       (guarded_ends flag guard (here + length front) (last_or last front))
 
-cases_open : (plan : Plan) (ends : List ℕ) (seen : List KRes) (here : ℕ) (last : Pos) (cs : kernel.Cases) → holes_in (cases_lines plan ends seen here last cs) here ≡ cases_starts plan ends seen here last cs
+pub cases_open : (plan : Plan) (ends : List ℕ) (seen : List KRes) (here : ℕ) (last : Pos) (cs : kernel.Cases) → holes_in (cases_lines plan ends seen here last cs) here ≡ cases_starts plan ends seen here last cs
 cases_open plan ends seen here last kernel.no_case = refl
 cases_open plan ends seen here last (kernel.more_cases (kernel.case guard i ss) cs) =
     let lines = case_lines plan (first_end ends) (flag_for seen i.resource) guard i here last in

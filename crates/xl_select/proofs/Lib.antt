@@ -10,5 +10,15 @@ pub mod EventRows
 pub mod FlagRows
 pub mod SettingRows
 pub mod Values
+pub mod SetUp
+pub mod Steps
+pub mod Flags
+pub mod Filled
+pub mod Setting
+pub mod Enabling
+pub mod Passing
+pub mod OneCase
+pub mod AllCases
+pub mod Opens
 pub mod LatchRows
 pub mod Entering

@@ -2,7 +2,6 @@
 use Rattle.std.proofs.Common.{◌≡◌, ℕ, ◌+◌, ◌-◌, ◌*◌, ◌≤◌, ◌<◌, add-one, drop, drop-cons, get_or, map, option_map, Bool, true, false, List, [], ◌∷◌, ◌++◌, length, Option, Some, None, Result, Ok, Err, refl, sym, ap, ◌∙◌, arith, append-nil, append_assoc, length-append}
 use Rattle.std.specs.Prelude.{OnOk, is_some, slice_index, if◌then◌else◌}
 use Rattle.xw_words.specs.declared.pos.Pos.{Pos}
-use Rattle.xs_instr.specs.declared.emitter.Hole.{Hole}
 use Rattle.xs_instr.specs.declared.instr.Instr.{Instr}
 use Rattle.xs_instr.specs.declared.instr.Instr.TheVariants.{Brff, Brft, Eeu, Ldwsp, Setv, Stwsp}
 use Rattle.xs_instr.specs.declared.instr.Reg.TheVariants.{R0, R9, R10, R11}
@@ -25,7 +24,6 @@ use Rattle.xl_expr.proofs.Emitted.{last_added, short_emitted, short_open}
 use Rattle.xl_expr.proofs.Evaluates.{some_nodes}
 use Rattle.xl_expr.proofs.Pieces.{length-at_pos}
 use Rattle.xl_expr.proofs.Sizes.{longer}
-use Rattle.xl_par.specs.Opening.{indices_of}
 use Rattle.xl_port.specs.Timings.{time_nodes, timing_expression}
 use Rattle.xl_select.specs.declared.opening.Flag.{Flag}
 use Rattle.xl_select.specs.OpeningCode.{arming_lines, beginning_lines, case_count, case_lines, case_parts, cases_in, cases_lines, cases_of, cases_starts, first_value, flag_for, flag_source, first_end, guard_lines, guarded_lines, has_default, is_default, name_instrs, opening_lines, other_ends, past_lines, resource_name, resources_from, seen_by, seen_with, select_pos, setting_instrs, taking_lines, tested_lines, timed_lines, value_lines, waiting_instrs}
@@ -241,14 +239,6 @@ module _ (plan : Plan) (end : ℕ) (ends ends' : List ℕ) (end_is : end ≡ fir
 
   pub next_seen : resources_from seen all ≡ resources_from seen' cs
   next_seen = ap (resources_from seen) is ∙ ap (λ (q : List KRes). resources_from q cs) (sym with_is)
-
--- the holes of cases, and one more
-pub starts_of_more : (holes new : List Hole) (start : Hole) → new ≡ holes ++ start ∷ [] → indices_of new ≡ indices_of holes ++ start.index ∷ []
-starts_of_more holes new start h = ap indices_of h ∙ more holes
-  where
-    more : (xs : List Hole) → indices_of (xs ++ start ∷ []) ≡ indices_of xs ++ start.index ∷ []
-    more [] = refl
-    more (x ∷ xs) = ap (λ ks. x.index ∷ ks) (more xs)
 
 pub count_is : (cs : List KCase) → case_count (cases_of cs) ≡ length cs
 count_is [] = refl

@@ -38,14 +38,6 @@ vector_after t (Some w) = by_vector w (is_num w.owner t)
 pub vectors_stay : (ev : Events) (t : ℕ) (res : Res) → vector_of (cleared ev t) res ≡ vector_of ev res
 vectors_stay ev t res = ap vector_in (watch_cleared ev t res) ∙ vector_after t (watch_of ev res)
 
--- and all watches are there
-there_after : (t : ℕ) (o : Option Watch) (w : Watch) → o ≡ Some w → (w' : Watch) × (after_clear t o ≡ Some w')
-there_after t None w h = cc
-there_after t (Some v) w h = (cleared_by v (is_num v.owner t), refl)
-
-pub watches_stay : (ev : Events) (t : ℕ) (res : Res) (w : Watch) → watch_of ev res ≡ Some w → (w' : Watch) × (watch_of (cleared ev t) res ≡ Some w')
-watches_stay ev t res w h = let x = there_after t (watch_of ev res) w h in (x.0, watch_cleared ev t res ∙ x.1)
-
 -- what is enabled for another thread is so still
 num_of : (o : Option ℕ) (t u : ℕ) → o ≡ Some u → is_num o t ≡ true → u ≡ t
 num_of None t u e h = cc

@@ -166,7 +166,7 @@ pub record CasesKept (relied : ℕ → Bool) (places : KRes → Res) (cases : ke
 -- state of the core in which the plan's layout holds, and whatever other threads do in between that leaves what this one relies on and the
 -- resources of the cases, the thread stands after at most 8 own steps for each part of a case and two more where it begins to take events,
 -- with the enabled cases set up; or its next step traps with the first error of a guard, time or condition. What the thread had enabled
--- before doesn't count. No clause cites this yet: the code is exact (`opening_lines`), and that it does so is still to be proved.
+-- before doesn't count.
 pub record Opens
     (plan : Plan) (ends : List ℕ) (cases : kernel.Cases) (otherwise : Bool) (pos : Pos)
     (pc : ℕ) (lines : List Line) : Type 0 where

@@ -8,7 +8,7 @@ ghost use Rattle.xs_instr.specs.Lines.{at_pos, last_pos};
 ghost use Rattle.xl_par.specs.Opening.{indices_of};
 ghost use Rattle.xl_port.specs.Timings.{time_depth, time_nodes, timing_expression};
 ghost use Rattle.xl_select.specs.Holes.{holes_in};
-ghost use Rattle.xl_select.specs.Opening.{AreAimedWith};
+ghost use Rattle.xl_select.specs.Opening.{AreAimedWith, Opens};
 ghost use Rattle.xl_select.specs.OpeningCode.{arming_lines, case_count, case_depth, case_lines, case_parts, cases_depth, cases_in, cases_lines, cases_of, cases_parts, cases_starts, cond_named, default_start, flag_for, flag_lines, guard_lines, has_default, index_of, name_instrs, opening_lines, opening_starts, place_from, resource_name, resources_from, seen_by, select_pos, setting_instrs, taking_lines, tested_lines, timed_lines, value_lines, waiting_instrs};
 
 use std::alloc::Global;
@@ -43,6 +43,11 @@ pub struct SelectHoles {
 /// each resource, by the order in which they are named, says so. With a default it stands behind a look whether an event can be taken;
 /// without one the thread waits for an event.
 ///
+/// `opens`: wherever the code stands, and whatever others do in between that leaves what the thread relies on and the resources of the
+/// cases, the thread comes within 8 own steps for each part of a case and two more to where its next step lets it take events. Exactly the
+/// cases are set up that a run counts as enabled, each for what it waits for, and with its own start. Or its next step traps with the error
+/// that comes first in the text.
+///
 /// The one error is want of memory; the emitter then holds what it held, and perhaps further instructions behind it.
 pub fn open_select(
     alloc: Global,
@@ -65,6 +70,9 @@ pub fn open_select(
         ≡ default_start (has_default (select_of s.now)) (length e.new)) }
     ensures open { OnOk result (Adds e.old e.new (λ lines. holes_in lines (length e.old)
         ≡ opening_starts plan.now ends.now (select_of s.now) (length e.old) (length e.new))) }
+    ensures opens { OnOk result (Adds e.old e.new (Opens plan.now ends.now
+        (cases_in (select_of s.now)) (has_default (select_of s.now))
+        (select_pos (select_of s.now)) (length e.old))) }
     ensures size { OnOk result
         (length e.new ≤ length e.old + 8 * cases_parts (cases_in (select_of s.now)) + 5) }
     ensures aimed { OnOk result (Adds e.old e.new (AreAimedWith

@@ -6,6 +6,7 @@ use Rattle.xl_par.specs.Opening.{indices_of}
 use Rattle.xl_select.specs.OpeningCode.{case_count, cases_depth, cases_in, cases_of, cases_parts, cases_starts, default_start, has_default, opening_lines, resources_from, select_pos, taking_lines}
 use Rattle.xl_select.proofs.Aimed.{opening_aimed}
 use Rattle.xl_select.proofs.Holes.{opening_open}
+use Rattle.xl_select.proofs.Opens.{opening_opens}
 use Rattle.xl_select.proofs.Opened.{begun_length, cases_are, count_is, default_is, opened, opened_starts, taking_few}
 use Rattle.xl_select.proofs.opening.open_select.Goals as goal
 
@@ -61,6 +62,16 @@ returns-clause-open c =
       lines = lines;
       is = returns-clause-code c;
       so = opening_open c.args.plan.now c.args.ends.now (cases_in s) (has_default s) (select_pos s) pc (length c.put_taking.new.e) (ap length (returns-clause-code c) ∙ length-append c.args.e.now lines);
+    }
+
+pub returns-clause-opens : goal.returns-clause-opens
+returns-clause-opens c =
+    let s = select_of c.args.s.now in
+    let pc = length c.args.e.now in
+    record {
+      lines = opening_lines c.args.plan.now c.args.ends.now (cases_in s) (has_default s) (select_pos s) pc;
+      is = returns-clause-code c;
+      so = opening_opens c.args.plan.now c.args.ends.now (cases_in s) (has_default s) (select_pos s) pc c.requires.shallow c.requires.few;
     }
 
 pub returns-clause-size : goal.returns-clause-size
