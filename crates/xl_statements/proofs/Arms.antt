@@ -12,7 +12,7 @@ use Rattle.xl_expr.specs.declared.plan.VarPlan.{VarPlan}
 use Rattle.xl_expr.specs.Targets.{AreAimed}
 use Rattle.xl_par.specs.Closing.{EndsSlave}
 use Rattle.xl_ends.specs.Ends.{Sides}
-use Rattle.xl_statements.specs.declared.walk.Leaving.{Leaving}
+use Rattle.xl_statements.specs.declared.leaving.Leaving.{Leaving}
 use Rattle.xl_statements.specs.Built.{branches_of, most}
 use Rattle.xl_statements.specs.Cells.{Cell}
 use Rattle.xl_statements.specs.Emits.{AreLines, Coded, Emits, Emitted, ParEmits, Slave}

@@ -10,7 +10,7 @@ use Rattle.xl_expr.specs.declared.plan.Plan.{Plan}
 use Rattle.xl_expr.specs.Targets.{AreGoodLines}
 use Rattle.xl_par.specs.Roots.{EndsRoot}
 use Rattle.xl_ends.specs.Ends.{Sides}
-use Rattle.xl_statements.specs.declared.walk.Leaving.{Leaving}
+use Rattle.xl_statements.specs.declared.leaving.Leaving.{Leaving}
 use Rattle.xl_statements.specs.Cells.{line_of}
 use Rattle.xl_statements.specs.Emits.{AllEmit, Emitted}
 use Rattle.xl_statements.specs.Inside.{AreInside, StandAlone}
@@ -39,7 +39,7 @@ module _
 
     pub root_emitted : Adds e0 e2 (IsRoot plan sides body pos (last_pos e0) (length e0))
     root_emitted =
-        let good = all_good plan sides body [] (last_pos e0) (length e0 + length at_1.cells + 1) (length e0) at_1.cells inside at_1.so (omega arith) in
+        let good = all_good plan sides body [] [] (last_pos e0) (length e0 + length at_1.cells + 1) (length e0) at_1.cells (λ n k. k) inside at_1.so (omega arith) in
         let cells = all_known (length e0 + length at_1.cells + 1) (length e0) at_1.cells good in
         let last_line : ends.lines ≡ line Freet pos ∷ [] = append_cancel_left e1 ends.lines (line Freet pos ∷ []) (sym ends.is ∙ at_2) in
         let end : length e1 ≡ length e0 + length (map line_of at_1.cells) = length_1 ∙ ap (λ k. length e0 + k) (sym (length-map at_1.cells line_of)) in
@@ -63,7 +63,7 @@ module _
         by = λ size h.
             let n = length-append (map line_of at_1.cells) (line Freet pos ∷ []) in
             let m = length-map at_1.cells line_of in
-            lines_good size (length e0) (map line_of at_1.cells) (line Freet pos ∷ []) (good_lines size (length e0) at_1.cells (all_good plan sides body [] (last_pos e0) size (length e0) at_1.cells inside at_1.so (omega arith))) (tt, refl, tt);
+            lines_good size (length e0) (map line_of at_1.cells) (line Freet pos ∷ []) (good_lines size (length e0) at_1.cells (all_good plan sides body [] [] (last_pos e0) size (length e0) at_1.cells (λ n k. k) inside at_1.so (omega arith))) (tt, refl, tt);
       };
     }
 

@@ -5,11 +5,15 @@ pub mod Blocks
 pub mod Sides
 pub mod Turns
 pub mod Starts
+pub mod FromStarts
+pub mod Walks
 pub mod Slaves
 pub mod OwnSides
 pub mod NextSlave
 pub mod Several
-pub mod Walks
+pub mod Cases
+pub mod NextCase
+pub mod Selects
 pub mod Arms
 pub mod Transferred
 pub mod Inside

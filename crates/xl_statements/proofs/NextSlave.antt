@@ -12,10 +12,10 @@ use Rattle.xl_par.specs.Opening.{indices_of}
 use Rattle.xl_ends.specs.Ends.{Sides}
 use Rattle.xl_ends.specs.Sides.{sides_of}
 use Rattle.xl_ends.specs.declared.sides.Side.{Side}
-use Rattle.xl_statements.specs.declared.walk.Leaving.{Leaving}
+use Rattle.xl_statements.specs.declared.leaving.Leaving.{Leaving}
 use Rattle.xl_statements.specs.Branches.{SlavesEmitIn}
 use Rattle.xl_statements.specs.Built.{branches_of, statements_of}
-use Rattle.xl_statements.specs.Emits.{SlavesEmitted}
+use Rattle.xl_statements.specs.Emits.{StartsEmitted}
 use Rattle.xl_statements.proofs.Slaves.{SlavesWalked, branches_at, slaves_end}
 
 module _
@@ -40,7 +40,7 @@ module _
         (subst (λ (l : List Sides). SlavesWalked plan (map sides_of each) l (branches_of bs) (branches_of (drop i bs)) (indices_of hs) (indices_of (drop i hs)) e0 e before left) sides h))
 
     -- behind the last
-    pub slaves_over : length bs ≤ i → SlavesEmitted (SlavesEmitIn plan (map sides_of each) (branches_of bs)) (indices_of hs) e0 e before left
+    pub slaves_over : length bs ≤ i → StartsEmitted (SlavesEmitIn plan (map sides_of each) (branches_of bs)) (indices_of hs) e0 e before left
     slaves_over past =
         let sides : map sides_of (drop i each) ≡ [] = at_drop_all (map sides_of) each i (omega (arith, many)) in
         let branches : branches_of (drop i bs) ≡ kernel.no_branch = at_drop_all branches_of bs i past in

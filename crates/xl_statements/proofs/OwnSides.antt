@@ -14,7 +14,7 @@ use Rattle.xl_ends.specs.declared.sides.Side.{Side}
 use Rattle.xl_statements.specs.Branches.{SlavesEmitIn}
 use Rattle.xl_statements.specs.Built.{branches_of}
 use Rattle.xl_statements.specs.Cells.{Cell}
-use Rattle.xl_statements.specs.Emits.{AllEmit, Coded, ParEmits, SeveralBranches, SlaveThen, SlavesEmit}
+use Rattle.xl_statements.specs.Emits.{AllEmit, Coded, FromStarts, ParEmits, SeveralBranches, Slave, SlavesEmit}
 use Rattle.xl_statements.proofs.Slaves.{several_of, take_all}
 
 -- those of the first branch, and of the others
@@ -46,7 +46,7 @@ module _ (plan : Plan) (sides : Sides) where
   slaves_in : (before : List kernel.Statements) (bs : kernel.Branches) → SlavesEmitIn plan (sides_of_each sides before bs) bs ≡ SlavesEmit plan sides before bs
   slaves_in before kernel.no_branch = refl
   slaves_in before (kernel.more_branches (kernel.branch ss pos) bs) =
-      ap (λ (Others : List ℕ → Coded). λ (starts : List ℕ) (last : Pos) (pc : ℕ) (cells : List Cell). SlaveThen (AllEmit plan (sides_in 0 before ss (codes_in bs) sides) ss) Others starts last pc cells) (slaves_in (ss ∷ before) bs)
+      ap (λ (Others : List ℕ → Coded). λ (starts : List ℕ) (last : Pos) (pc : ℕ) (cells : List Cell). FromStarts (Slave (AllEmit plan (sides_in 0 before ss (codes_in bs) sides) ss)) Others starts last pc cells) (slaves_in (ss ∷ before) bs)
 
   module _ (ss : kernel.Statements) (pos : Pos) (last : Pos) (pc : ℕ) (cells : List Cell) where
     -- the code of a `par` of one branch

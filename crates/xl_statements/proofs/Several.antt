@@ -14,16 +14,17 @@ use Rattle.xl_expr.proofs.Emitted.{last_added}
 use Rattle.xl_par.specs.Closing.{Closes, closing_instrs}
 use Rattle.xl_par.specs.Opening.{AreAimedWith, Opens, filled, opening_lines, starts_from}
 use Rattle.xl_par.proofs.Listed.{opening_length}
-use Rattle.xl_statements.specs.declared.walk.Leaving.{Leaving}
+use Rattle.xl_select.specs.Holes.{holes_in}
+use Rattle.xl_statements.specs.declared.leaving.Leaving.{Leaving}
 use Rattle.xl_ends.specs.Ends.{Sides}
 use Rattle.xl_statements.specs.Branches.{SlavesEmitIn}
 use Rattle.xl_statements.specs.Cells.{Cell, known, behind, leaves, line_of}
-use Rattle.xl_statements.specs.Emits.{Coded, Emitted, SeveralBranches, SlavesEmitted}
+use Rattle.xl_statements.specs.Emits.{Coded, Emitted, SeveralBranches, StartsEmitted}
 use Rattle.xl_statements.specs.Landing.{AreLandable, Lands, all_landed}
 use Rattle.xl_statements.proofs.Parts.{emitted_last, emitted_length, leaves_append, leaves_behind, lines_append, lines_known, lines_length}
 use Rattle.xl_statements.proofs.Seams.{extends_by, lands_at, open_at}
 use Rattle.xl_statements.proofs.Slaves.{starts_count}
-use Rattle.xl_statements.proofs.Starts.{all_size, fills, filled_length, holes_in, landables, opening_holes, opening_last}
+use Rattle.xl_statements.proofs.Starts.{all_size, fills, filled_length, landables, opening_holes, opening_last}
 
 -- what a call added is what its code is
 pub added : (old new lines : List Line) (P : List Line → Type 0) → new ≡ old ++ lines → Adds old new P → P lines
@@ -120,7 +121,7 @@ module _
           (closes : Closes (last_pos e2) (length e2) (at_pos (last_pos e2) closing_instrs))
           (closes_aimed : AreAimed (length e2) (at_pos (last_pos e2) closing_instrs))
           (past : ℕ) (past_is : past ≡ length e2 + 9)
-          (e4 : List Line) (left2 : List Leaving) (at_4 : SlavesEmitted (SlavesEmitIn plan each bs) holes e3 e4 left1 left2)
+          (e4 : List Line) (left2 : List Leaving) (at_4 : StartsEmitted (SlavesEmitIn plan each bs) holes e3 e4 left1 left2)
         where
           abbrev front : List Line
           front = e0 ++ (filled (opening_lines plan.first_stack (last_pos e0) n) at_4.starts ++ (map line_of at_2.cells ++ at_pos (last_pos e2) closing_instrs))

@@ -12,7 +12,7 @@ use Rattle.xl_expr.specs.declared.plan.VarPlan.{VarPlan}
 use Rattle.xl_expr.specs.Targets.{AreAimed}
 use Rattle.xl_expr.proofs.Emitted.{last_added}
 use Rattle.xl_flow.specs.Flow.{AddsTest, Tests}
-use Rattle.xl_statements.specs.declared.walk.Leaving.{Leaving}
+use Rattle.xl_statements.specs.declared.leaving.Leaving.{Leaving}
 use Rattle.xl_statements.specs.Built.{statements_of}
 use Rattle.xl_statements.specs.Cells.{Cell, known, behind, leaves, line_of}
 use Rattle.xl_statements.specs.Emits.{Branching, Coded, Emitted, OneSide, TwoSides}

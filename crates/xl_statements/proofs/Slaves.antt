@@ -15,15 +15,15 @@ use Rattle.xs_instr.specs.Lines.{Line, IsOpen, landed, last_pos, line}
 use Rattle.xl_expr.specs.declared.plan.Plan.{Plan}
 use Rattle.xl_par.specs.Closing.{EndsSlave}
 use Rattle.xl_par.specs.Opening.{indices_of}
-use Rattle.xl_statements.specs.declared.walk.Leaving.{Leaving}
+use Rattle.xl_statements.specs.declared.leaving.Leaving.{Leaving}
 use Rattle.xl_ends.specs.Ends.{Sides}
 use Rattle.xl_statements.specs.Branches.{SlavesEmitIn}
-use Rattle.xl_statements.specs.Built.{BranchesAreBuilt, BranchesAreShallow, ParsInBranchesAreFew, branches_of, most_of_all, most_of_branches, statements_of}
+use Rattle.xl_statements.specs.Built.{BranchesAreBuilt, BranchesAreNarrow, BranchesAreShallow, branches_of, most_of_all, most_of_branches, statements_of}
 use Rattle.xl_statements.specs.Cells.{Cell, known, behind, leaves, line_of}
-use Rattle.xl_statements.specs.Emits.{AllEmit, Coded, Emitted, OneOrSeveral, SeveralBranches, Slave, SlavesEmitted}
-use Rattle.xl_statements.specs.Landing.{AreLandable, Lands, all_landed}
-use Rattle.xl_statements.proofs.Parts.{emitted_last, emitted_length, leaves_append, lines_append, lines_length}
-use Rattle.xl_statements.proofs.Starts.{landed_front, landed_last, landed_size, open_front}
+use Rattle.xl_statements.specs.Emits.{AllEmit, Coded, Emitted, OneOrSeveral, SeveralBranches, Slave, StartsEmitted}
+use Rattle.xl_statements.specs.Landing.{AreLandable, Lands}
+use Rattle.xl_statements.proofs.FromStarts.{StartsWalked, none_left, start_open, start_refused, starts_begin, starts_end, starts_go_on}
+use Rattle.xl_statements.proofs.Parts.{emitted_last, emitted_length, leaves_append, lines_append}
 use Rattle.xl_statements.proofs.Walks.{branch_weights, weights}
 
 -- The branches of a list.
@@ -122,42 +122,25 @@ module _
           };
         }
 
--- What the loop keeps: the code so far is that of the branches, once the others' comes behind it.
+-- What the loop over them keeps.
 pub record SlavesWalked
     (plan : Plan) (each others : List Sides) (all rest : kernel.Branches) (holes open_ones : List ℕ)
     (e0 e : List Line) (before left : List Leaving) : Type 0 where
   pub built : BranchesAreBuilt rest
   pub shallow : BranchesAreShallow rest
-  pub few : ParsInBranchesAreFew rest
+  pub narrow : BranchesAreNarrow rest
   pub room : length e + most_of_branches plan.vars rest ≤ length e0 + most_of_branches plan.vars all
-  pub front : List Line
-  pub cells : List Cell
-  pub starts : List ℕ
-  pub is : e ≡ front ++ map line_of cells
-  pub size : length front ≡ length e0
-  pub landable : AreLandable front open_ones
-  pub lands : (later : List ℕ) → all_landed front open_ones later ≡ all_landed e0 holes (starts ++ later)
-  pub leaving_ones : left ≡ before ++ leaves cells (length e0)
-  pub so : (later : List ℕ) (more : List Cell) → SlavesEmitIn plan others rest later (last_pos e) (length e) more →
-      SlavesEmitIn plan each all (starts ++ later) (last_pos e0) (length e0) (cells ++ more)
+  pub walked : StartsWalked (SlavesEmitIn plan each all) (SlavesEmitIn plan others rest) holes open_ones e0 e before left
 
 pub slaves_begin : (plan : Plan) (each : List Sides) (all : kernel.Branches) (holes : List ℕ) (e0 : List Line) (before : List Leaving) →
-    BranchesAreBuilt all → BranchesAreShallow all → ParsInBranchesAreFew all → AreLandable e0 holes →
+    BranchesAreBuilt all → BranchesAreShallow all → BranchesAreNarrow all → AreLandable e0 holes →
     SlavesWalked plan each each all all holes holes e0 e0 before before
-slaves_begin plan each all holes e0 before built shallow few landable = record {
+slaves_begin plan each all holes e0 before built shallow narrow landable = record {
   built = built;
   shallow = shallow;
-  few = few;
+  narrow = narrow;
   room = omega arith;
-  front = e0;
-  cells = [];
-  starts = [];
-  is = sym (append-nil e0);
-  size = refl;
-  landable = landable;
-  lands = λ later. refl;
-  leaving_ones = sym (append-nil before);
-  so = λ later more h. h;
+  walked = starts_begin (SlavesEmitIn plan each all) holes e0 before landable;
 }
 
 module _
@@ -165,96 +148,31 @@ module _
     (e0 e1 : List Line) (before left1 : List Leaving)
     (h : SlavesWalked plan each (own ∷ others) all (kernel.more_branches (kernel.branch ss pos) rest) holes (hole ∷ open_ones) e0 e1 before left1)
   where
-    pub start_open : IsOpen e1 hole
-    start_open = subst (λ ls. IsOpen ls hole) (sym h.is) (open_front h.front (map line_of h.cells) hole h.landable.0)
-
-    front_lands : landed e1 hole (length e1) ≡ landed h.front hole (length e1) ++ map line_of h.cells
-    front_lands = ap (λ ls. landed ls hole (length e1)) h.is ∙ landed_front h.front (map line_of h.cells) hole (length e1) h.landable.0
+    pub slave_open : IsOpen e1 hole
+    slave_open = start_open (SlavesEmitIn plan each all) (Slave (AllEmit plan own ss)) (SlavesEmitIn plan others rest) holes open_ones hole e0 e1 before left1 h.walked
 
     -- and what came behind where memory was wanting
     pub slave_refused : (e2 : List Line) → Extends (landed e1 hole (length e1)) e2 → Lands holes e0 e2
-    slave_refused e2 more = record {
-      targets = h.starts ++ length e1 ∷ [];
-      more = map line_of h.cells ++ more.more;
-      is =
-          more.is
-          ∙ ap (λ ls. ls ++ more.more) front_lands
-          ∙ append_assoc (landed h.front hole (length e1)) (map line_of h.cells) more.more
-          ∙ ap (λ ls. ls ++ (map line_of h.cells ++ more.more)) (all_none (landed h.front hole (length e1)) open_ones ∙ h.lands (length e1 ∷ []));
+    slave_refused e2 more = start_refused (SlavesEmitIn plan each all) (Slave (AllEmit plan own ss)) (SlavesEmitIn plan others rest) holes open_ones hole e0 e1 before left1 h.walked e2 more
+
+    pub slaves_go_on : (e2 : List Line) (left2 : List Leaving) → Emitted (Slave (AllEmit plan own ss)) (landed e1 hole (length e1)) e2 left1 left2 → length e2 ≤ length e1 + most_of_all plan.vars ss + 1 → SlavesWalked plan each others all rest holes open_ones e0 e2 before left2
+    slaves_go_on e2 left2 g size = record {
+      built = h.built.1;
+      shallow = h.shallow.1;
+      narrow = h.narrow.1;
+      room = let r = h.room in omega (arith, r, size);
+      walked = starts_go_on (SlavesEmitIn plan each all) (Slave (AllEmit plan own ss)) (SlavesEmitIn plan others rest) holes open_ones hole e0 e1 before left1 h.walked e2 left2 g;
     }
-      where
-        all_none : (ls : List Line) (hs : List ℕ) → ls ≡ all_landed ls hs []
-        all_none ls [] = refl
-        all_none ls (k ∷ hs) = refl
-
-    module _ (e2 : List Line) (left2 : List Leaving) (g : Emitted (Slave (AllEmit plan own ss)) (landed e1 hole (length e1)) e2 left1 left2) (size : length e2 ≤ length e1 + most_of_all plan.vars ss + 1) where
-      last_1 : last_pos (landed e1 hole (length e1)) ≡ last_pos e1
-      last_1 = landed_last e1 hole (length e1)
-
-      size_1 : length (landed e1 hole (length e1)) ≡ length e1
-      size_1 = landed_size e1 hole (length e1)
-
-      length_1 : length e1 ≡ length e0 + length h.cells
-      length_1 = ap length h.is ∙ lines_length h.front h.cells ∙ ap (λ k. k + length h.cells) h.size
-
-      last_2 : last_pos e2 ≡ behind (last_pos e1) g.cells
-      last_2 = emitted_last (Slave (AllEmit plan own ss)) (landed e1 hole (length e1)) e2 left1 left2 g ∙ ap (λ p. behind p g.cells) last_1
-
-      length_2 : length e2 ≡ length e1 + length g.cells
-      length_2 = emitted_length (Slave (AllEmit plan own ss)) (landed e1 hole (length e1)) e2 left1 left2 g ∙ ap (λ k. k + length g.cells) size_1
-
-      pub slaves_go_on : SlavesWalked plan each others all rest holes open_ones e0 e2 before left2
-      slaves_go_on = record {
-        built = h.built.1;
-        shallow = h.shallow.1;
-        few = h.few.1;
-        room = let r = h.room in omega (arith, r, size);
-        front = landed h.front hole (length e1);
-        cells = h.cells ++ g.cells;
-        starts = h.starts ++ length e1 ∷ [];
-        is =
-            g.lines
-            ∙ ap (λ ls. ls ++ map line_of g.cells) front_lands
-            ∙ append_assoc (landed h.front hole (length e1)) (map line_of h.cells) (map line_of g.cells)
-            ∙ ap (λ ls. landed h.front hole (length e1) ++ ls) (sym (lines_append h.cells g.cells));
-        size = landed_size h.front hole (length e1) ∙ h.size;
-        landable = h.landable.1 (length e1);
-        lands = λ later. h.lands (length e1 ∷ later) ∙ ap (λ ns. all_landed e0 holes ns) (sym (append_assoc h.starts (length e1 ∷ []) later));
-        leaving_ones =
-            g.leaving_ones
-            ∙ ap (λ k. left1 ++ leaves g.cells k) (size_1 ∙ length_1)
-            ∙ ap (λ l. l ++ leaves g.cells (length e0 + length h.cells)) h.leaving_ones
-            ∙ append_assoc before (leaves h.cells (length e0)) (leaves g.cells (length e0 + length h.cells))
-            ∙ ap (λ l. before ++ l) (sym (leaves_append h.cells g.cells (length e0)));
-        so = λ later more k.
-            subst (λ ns. SlavesEmitIn plan each all ns (last_pos e0) (length e0) ((h.cells ++ g.cells) ++ more)) (sym (append_assoc h.starts (length e1 ∷ []) later))
-            (subst (SlavesEmitIn plan each all (h.starts ++ (length e1 ∷ later)) (last_pos e0) (length e0)) (sym (append_assoc h.cells g.cells more))
-            (h.so (length e1 ∷ later) (g.cells ++ more) (record {
-              slave = g.cells;
-              later = later;
-              others = more;
-              starts_are = refl;
-              is = refl;
-              slave_is = subst (λ p. Slave (AllEmit plan own ss) p (length e1) g.cells) last_1 (subst (λ n. Slave (AllEmit plan own ss) (last_pos (landed e1 hole (length e1))) n g.cells) size_1 g.so);
-              others_are = subst (λ p. SlavesEmitIn plan others rest later p (length e1 + length g.cells) more) last_2 (subst (λ n. SlavesEmitIn plan others rest later (last_pos e2) n more) length_2 k);
-            })));
-      }
 
 pub slaves_end : (plan : Plan) (each : List Sides) (all : kernel.Branches) (holes : List ℕ) (e0 e : List Line) (before left : List Leaving) →
-    SlavesWalked plan each [] all kernel.no_branch holes [] e0 e before left → SlavesEmitted (SlavesEmitIn plan each all) holes e0 e before left
-slaves_end plan each all holes e0 e before left h = record {
-  starts = h.starts;
-  cells = h.cells;
-  lines = h.is ∙ ap (λ ls. ls ++ map line_of h.cells) (h.lands [] ∙ ap (λ ns. all_landed e0 holes ns) (append-nil h.starts));
-  leaving_ones = h.leaving_ones;
-  so =
-      subst (λ ns. SlavesEmitIn plan each all ns (last_pos e0) (length e0) h.cells) (append-nil h.starts)
-      (subst (SlavesEmitIn plan each all (h.starts ++ []) (last_pos e0) (length e0)) (append-nil h.cells) (h.so [] [] (refl, refl)));
-}
+    SlavesWalked plan each [] all kernel.no_branch holes [] e0 e before left → StartsEmitted (SlavesEmitIn plan each all) holes e0 e before left
+slaves_end plan each all holes e0 e before left h =
+    starts_end (SlavesEmitIn plan each all) (SlavesEmitIn plan [] kernel.no_branch) holes [] e0 e before left h.walked e left
+    (none_left (SlavesEmitIn plan [] kernel.no_branch) e left (refl, refl))
 
 -- there is a start for each
 pub starts_count : (plan : Plan) (each : List Sides) (bs : kernel.Branches) (starts : List ℕ) (last : Pos) (pc : ℕ) (cells : List Cell) → SlavesEmitIn plan each bs starts last pc cells → length starts ≡ branch_count bs
 starts_count plan each kernel.no_branch starts last pc cells h = ap length h.0
 starts_count plan [] (kernel.more_branches b bs) starts last pc cells h = absurd h
 starts_count plan (own ∷ each) (kernel.more_branches (kernel.branch ss pos) bs) starts last pc cells h =
-    ap length h.starts_are ∙ ap suc (starts_count plan each bs h.later (behind last h.slave) (pc + length h.slave) h.others h.others_are)
+    ap length h.starts_are ∙ ap suc (starts_count plan each bs h.later (behind last h.first) (pc + length h.first) h.others h.others_are)

@@ -1,4 +1,4 @@
--- The starts of a `par`'s branches land among the lines that open it.
+-- The starts of a `par`'s branches, and of a select's cases, land among the lines that open it.
 use Rattle.std.proofs.Common.{◌≡◌, ℕ, zero, suc, ◌+◌, Bool, true, false, List, [], ◌∷◌, ◌++◌, length, Option, Some, None, refl, sym, ap, ◌∙◌, subst, arith, append_assoc}
 use Rattle.std.specs.Prelude.{slice_get, slice_set}
 use Rattle.xw_words.specs.declared.pos.Pos.{Pos}
@@ -6,6 +6,7 @@ use Rattle.xs_instr.specs.declared.instr.Instr.TheVariants.{Msync}
 use Rattle.xs_instr.specs.declared.instr.Reg.TheVariants.{R1}
 use Rattle.xs_instr.specs.Lines.{Line, IsOpen, IsOpenLine, aimed, first_pos, landed, landed_at, last_or, last_pos, line}
 use Rattle.xl_par.specs.Opening.{filled, filled_on, opening_lines, slaves_lines, stack_offset, starts_from}
+use Rattle.xl_select.specs.Holes.{holes_in, holes_on}
 use Rattle.xl_statements.specs.Landing.{AreLandable, all_landed}
 use Rattle.xl_statements.proofs.Closing.{landed_length}
 use Rattle.xl_statements.proofs.Seams.{next_length, seam_get, seam_set}
@@ -65,16 +66,23 @@ all_size ls [] targets = refl
 all_size ls (h ∷ hs) [] = refl
 all_size ls (h ∷ hs) (n ∷ ns) = all_size (landed ls h n) hs ns ∙ landed_size ls h n
 
+pub all_last : (ls : List Line) (holes targets : List ℕ) → last_pos (all_landed ls holes targets) ≡ last_pos ls
+all_last ls [] targets = refl
+all_last ls (h ∷ hs) [] = refl
+all_last ls (h ∷ hs) (n ∷ ns) = all_last (landed ls h n) hs ns ∙ landed_last ls h n
+
+-- without targets they stay as they are
+pub all_none : (ls : List Line) (holes : List ℕ) → ls ≡ all_landed ls holes []
+all_none ls [] = refl
+all_none ls (h ∷ hs) = refl
+
+-- they land as they do alone
+pub all_front : (front tail : List Line) (holes targets : List ℕ) → AreLandable front holes → all_landed (front ++ tail) holes targets ≡ all_landed front holes targets ++ tail
+all_front front tail [] targets h = refl
+all_front front tail (k ∷ hs) [] h = refl
+all_front front tail (k ∷ hs) (n ∷ ns) h = ap (λ ls. all_landed ls hs ns) (landed_front front tail k n h.0) ∙ all_front (landed front k n) tail hs ns (h.1 n)
+
 -- Open lines, one after the other.
-
-abbrev holes_on : Bool → (k : ℕ) → List ℕ → List ℕ
-holes_on true k hs = k ∷ hs
-holes_on false k hs = hs
-
--- the indices of the open ones, of lines that stand from an index on
-abbrev pub holes_in : List Line → (k : ℕ) → List ℕ
-holes_in [] k = []
-holes_in (l ∷ ls) k = holes_on l.is_open k (holes_in ls (k + 1))
 
 filled_none : (ls : List Line) → filled ls [] ≡ ls
 filled_none [] = refl

@@ -9,7 +9,7 @@ use Rattle.xc_kernel.specs.Plain as kernel
 use Rattle.xl_expr.specs.declared.plan.VarPlan.{VarPlan}
 use Rattle.xl_expr.specs.Targets.{AreAimed}
 use Rattle.xl_flow.specs.Flow.{AddsTest, Tests}
-use Rattle.xl_statements.specs.declared.walk.Leaving.{Leaving}
+use Rattle.xl_statements.specs.declared.leaving.Leaving.{Leaving}
 use Rattle.xl_statements.specs.Cells.{Cell, known, behind, leaves, line_of}
 use Rattle.xl_statements.specs.Emits.{Coded, Emitted, LoopCode}
 use Rattle.xl_statements.proofs.Parts.{emitted_length, emitted_last, leaves_append, leaves_behind, lines_append, lines_known}

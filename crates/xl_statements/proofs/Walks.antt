@@ -6,8 +6,8 @@ use Rattle.xc_kernel.specs.Kernels.{statement_of}
 use Rattle.xs_instr.specs.Lines.{Line, last_pos}
 use Rattle.xl_expr.specs.declared.plan.Plan.{Plan}
 use Rattle.xl_ends.specs.Ends.{Sides}
-use Rattle.xl_statements.specs.declared.walk.Leaving.{Leaving}
-use Rattle.xl_statements.specs.Built.{AreBuilt, AreShallow, ParsAreFew, most, most_of_all, statements_of}
+use Rattle.xl_statements.specs.declared.leaving.Leaving.{Leaving}
+use Rattle.xl_statements.specs.Built.{AreBuilt, AreNarrow, AreShallow, most, most_of_all, statements_of}
 use Rattle.xl_statements.specs.Cells.{Cell, leaves, line_of}
 use Rattle.xl_statements.specs.Emits.{AllEmit, Emits, Emitted}
 use Rattle.xl_statements.proofs.Parts.{emitted_last, emitted_length, leaves_append, lines_append, lines_length}
@@ -18,12 +18,21 @@ abbrev mutual
   weight (kernel.if_then test first second) = 1 + weights first + weights second
   weight (kernel.loop test body next) = 1 + weights body + weights next
   weight (kernel.block n ss) = 1 + weights ss
+  weight (kernel.select cs otherwise pos) = 1 + case_weights cs + default_weight otherwise
   weight (kernel.par bs) = 1 + branch_weights bs
   weight other = 1
 
   pub weights : kernel.Statements → ℕ
   weights kernel.no_more = 1
   weights (kernel.more s ss) = 1 + weight s + weights ss
+
+  pub case_weights : kernel.Cases → ℕ
+  case_weights kernel.no_case = 1
+  case_weights (kernel.more_cases (kernel.case guard i ss) cs) = 1 + weights ss + case_weights cs
+
+  pub default_weight : kernel.Default → ℕ
+  default_weight kernel.no_default = 1
+  default_weight (kernel.default ss) = 1 + weights ss
 
   pub branch_weights : kernel.Branches → ℕ
   branch_weights kernel.no_branch = 1
@@ -51,18 +60,18 @@ lighter ss i x is lt = let l = item_weight ss i x x (sym is) lt in omega arith
 pub record Walked (plan : Plan) (sides : Sides) (all rest : kernel.Statements) (e0 e : List Line) (before left : List Leaving) : Type 0 where
   pub built : AreBuilt rest
   pub shallow : AreShallow rest
-  pub few : ParsAreFew rest
+  pub narrow : AreNarrow rest
   pub room : length e + most_of_all plan.vars rest ≤ length e0 + most_of_all plan.vars all
   pub cells : List Cell
   pub lines : e ≡ e0 ++ map line_of cells
   pub leaving_ones : left ≡ before ++ leaves cells (length e0)
   pub so : (more : List Cell) → AllEmit plan sides rest (last_pos e) (length e) more → AllEmit plan sides all (last_pos e0) (length e0) (cells ++ more)
 
-pub walk_begins : (plan : Plan) (sides : Sides) (all : kernel.Statements) (e0 : List Line) (before : List Leaving) → AreBuilt all → AreShallow all → ParsAreFew all → Walked plan sides all all e0 e0 before before
-walk_begins plan sides all e0 before built shallow few = record {
+pub walk_begins : (plan : Plan) (sides : Sides) (all : kernel.Statements) (e0 : List Line) (before : List Leaving) → AreBuilt all → AreShallow all → AreNarrow all → Walked plan sides all all e0 e0 before before
+walk_begins plan sides all e0 before built shallow narrow = record {
   built = built;
   shallow = shallow;
-  few = few;
+  narrow = narrow;
   room = omega arith;
   cells = [];
   lines = sym (append-nil e0);
@@ -74,7 +83,7 @@ pub walk_goes_on : (plan : Plan) (sides : Sides) (all rest : kernel.Statements) 
 walk_goes_on plan sides all rest s e0 e1 e2 before left1 left2 h g size = record {
   built = h.built.1;
   shallow = h.shallow.1;
-  few = h.few.1;
+  narrow = h.narrow.1;
   room = let r = h.room in omega arith;
   cells = h.cells ++ g.cells;
   lines = g.lines ∙ ap (λ ls. ls ++ map line_of g.cells) h.lines ∙ append_assoc e0 (map line_of h.cells) (map line_of g.cells) ∙ ap (λ ls. e0 ++ ls) (sym (lines_append h.cells g.cells));

@@ -144,8 +144,8 @@ module _ (vars : List (Option VarPlan)) where
     most (kernel.loop x a b) = 8 * nodes x + most_of_all a + most_of_all b + 2
     most (kernel.block n a) = most_of_all a
     most (kernel.exit n) = 1
-    -- a select's opening has at most 8 for each part of its cases, and five more
-    most (kernel.select cs otherwise pos) = 8 * cases_parts cs + 5 + most_of_cases cs + most_of_default otherwise
+    -- a select's opening has at most 8 for each part of its cases, and eight more
+    most (kernel.select cs otherwise pos) = 8 * cases_parts cs + 8 + most_of_cases cs + most_of_default otherwise
     most (kernel.par bs) = most_of_branches bs + 13 * branch_count bs
     most other = 0
 

@@ -221,7 +221,8 @@ module _ (plan : Plan) where
     Emits sides (kernel.block n a) last pc cells = Closes (BlockEnd n) (AllEmit sides a) last pc cells
     Emits sides (kernel.exit n) last pc cells = cells ≡ leaving (BlockEnd n) last ∷ []
     Emits sides (kernel.select cs otherwise pos) last pc cells =
-        SelectCode plan (case_ends plan.channels sides cs) cs otherwise pos (CasesEmit sides otherwise cs) last pc cells
+        SelectCode plan (case_ends plan.channels sides cs) cs otherwise pos
+        (CasesEmit sides otherwise (DefaultEmits sides otherwise) cs) last pc cells
     Emits sides (kernel.par bs) last pc cells = ParEmits sides bs last pc cells
     Emits sides other last pc cells = ⊥
 
@@ -229,12 +230,12 @@ module _ (plan : Plan) where
     AllEmit sides kernel.no_more last pc cells = cells ≡ []
     AllEmit sides (kernel.more s ss) last pc cells = Follow (Emits sides s) (AllEmit sides ss) last pc cells
 
-    -- a select's cases and then its default, by where they start
-    pub CasesEmit : Sides → kernel.Default → kernel.Cases → List ℕ → Coded
-    CasesEmit sides otherwise kernel.no_case starts last pc cells = DefaultEmits sides otherwise starts last pc cells
-    CasesEmit sides otherwise (kernel.more_cases (kernel.case guard i ss) cs) starts last pc cells =
+    -- a select's cases and then its default, by the default's code and by where they start
+    pub CasesEmit : Sides → kernel.Default → (Default : List ℕ → Coded) → kernel.Cases → List ℕ → Coded
+    CasesEmit sides otherwise Default kernel.no_case starts last pc cells = Default starts last pc cells
+    CasesEmit sides otherwise Default (kernel.more_cases (kernel.case guard i ss) cs) starts last pc cells =
         FromStarts (CaseCode (EntersCase plan i (case_end plan.channels sides i.resource) true) (AllEmit sides ss) (is_last cs otherwise))
-        (CasesEmit sides otherwise cs) starts last pc cells
+        (CasesEmit sides otherwise Default cs) starts last pc cells
 
     pub DefaultEmits : Sides → kernel.Default → List ℕ → Coded
     DefaultEmits sides kernel.no_default starts last pc cells = (starts ≡ []) × (cells ≡ [])
@@ -250,6 +251,10 @@ module _ (plan : Plan) where
     SlavesEmit sides before kernel.no_branch starts last pc cells = (starts ≡ []) × (cells ≡ [])
     SlavesEmit sides before (kernel.more_branches (kernel.branch ss pos) bs) starts last pc cells =
         FromStarts (Slave (AllEmit (sides_in 0 before ss (codes_in bs) sides) ss)) (SlavesEmit sides (ss ∷ before) bs) starts last pc cells
+
+  -- what stands in a select
+  abbrev pub InsideEmits : Sides → kernel.Default → kernel.Cases → List ℕ → Coded
+  InsideEmits sides otherwise cs starts last pc cells = CasesEmit sides otherwise (DefaultEmits sides otherwise) cs starts last pc cells
 
 -- Such code was added to the lines, and its jumps to ends to those that are open.
 pub record Emitted (Code : Coded) (old new : List Line) (before after : List Leaving) : Type 0 where

@@ -3,6 +3,7 @@ pub mod Built
 pub mod CaseEnds
 pub mod Emits
 pub mod Branches
+pub mod CaseCodes
 pub mod Landing
 pub mod Inside
 pub mod Roots

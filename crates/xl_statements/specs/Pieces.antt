@@ -169,7 +169,8 @@ module _ (code : Code) where
       PieceAt sides (kernel.exit n) exits pc pc' =
           (end : ℕ) × (exit_of exits n ≡ Some end) × (slice_get code.instrs pc ≡ Some (Brfu end)) × (pc' ≡ pc + 1)
       PieceAt sides (kernel.select cs otherwise pos) exits pc pc' =
-          SelectAt (case_ends plan.channels sides cs) cs (is_default otherwise) pos (CasesAt sides exits otherwise cs) pc pc'
+          SelectAt (case_ends plan.channels sides cs) cs (is_default otherwise) pos
+          (CasesAt sides exits (DefaultFrom sides exits otherwise) cs) pc pc'
       PieceAt sides (kernel.par bs) exits pc pc' = ParAt sides bs pc pc'
       PieceAt sides other exits pc pc' = ⊥
 
@@ -177,13 +178,15 @@ module _ (code : Code) where
       PiecesAt sides kernel.no_more exits pc pc' = pc ≡ pc'
       PiecesAt sides (kernel.more s ss) exits pc pc' = (p : ℕ) × PieceAt sides s exits pc p × PiecesAt sides ss exits p pc'
 
-      -- a select's cases and then its default, by where they begin and where the select ends; the blocks around it are open in them
-      pub CasesAt : Sides → List Exit → kernel.Default → kernel.Cases → (targets : List ℕ) → (end : ℕ) → Type 0
-      CasesAt sides exits otherwise kernel.no_case targets end = DefaultFrom sides exits otherwise targets end
-      CasesAt sides exits otherwise (kernel.more_cases (kernel.case guard i ss) cs) targets end =
+      -- a select's cases and then its default, by the default's code, where they begin and where the select ends; the blocks around it
+      -- are open in them
+      pub CasesAt :
+          Sides → List Exit → (Default : (targets : List ℕ) → (end : ℕ) → Type 0) → kernel.Cases → (targets : List ℕ) → (end : ℕ) → Type 0
+      CasesAt sides exits Default kernel.no_case targets end = Default targets end
+      CasesAt sides exits Default (kernel.more_cases (kernel.case guard i ss) cs) targets end =
           (target : ℕ) × (later : List ℕ) × (targets ≡ target ∷ later)
           × CaseFrom (EntersCase plan i (case_end plan.channels sides i.resource) true) (PiecesAt sides ss exits) target end
-          × CasesAt sides exits otherwise cs later end
+          × CasesAt sides exits Default cs later end
 
       pub DefaultFrom : Sides → List Exit → kernel.Default → (targets : List ℕ) → (end : ℕ) → Type 0
       DefaultFrom sides exits kernel.no_default targets end = targets ≡ []

@@ -11,11 +11,12 @@ ghost use Rattle.xl_par.specs.Closing.{Closes, closing_instrs};
 ghost use Rattle.xl_par.specs.Opening.{indices_of};
 ghost use Rattle.xl_ends.specs.Sides.{sides_of};
 ghost use Rattle.xl_statements.specs.Branches.{SlavesEmitIn};
-ghost use Rattle.xl_statements.specs.Built.{AreBuilt, AreShallow, BranchesAreBuilt, BranchesAreShallow, ParsAreFew, ParsInBranchesAreFew, branches_of, most, most_branches, most_of_all, most_of_branches, statements_of};
-ghost use Rattle.xl_statements.specs.Emits.{AllEmit, Emitted, ParEmits, SeveralBranches, Slave, SlavesEmitted};
+ghost use Rattle.xl_statements.specs.Built.{AreBuilt, AreNarrow, AreShallow, BranchesAreBuilt, BranchesAreNarrow, BranchesAreShallow, branches_of, most, most_branches, most_of_all, most_of_branches, statements_of};
+ghost use Rattle.xl_statements.specs.Emits.{AllEmit, Emitted, ParEmits, SeveralBranches, Slave, StartsEmitted};
 ghost use Rattle.xl_statements.specs.Landing.{AreLandable, Lands};
 
-use crate::walk::{Leaving, emit_all};
+use crate::leaving::Leaving;
+use crate::walk::emit_all;
 use std::alloc::Global;
 use xc_kernel::{KBranch, Kst};
 use xl_ends::{Side, sides_of_branches};
@@ -37,10 +38,11 @@ pub(crate) fn emit_par(
 ) -> Result<(), Memory>
     requires built { BranchesAreBuilt (branches_of branches.now) }
     requires shallow { BranchesAreShallow (branches_of branches.now) }
-    requires few { ParsInBranchesAreFew (branches_of branches.now) }
+    requires narrow { BranchesAreNarrow (branches_of branches.now) }
     requires count { branch_count (branches_of branches.now) ≤ most_branches }
     requires stack { plan.now.first_stack ≤ 16384 }
-    requires room { length e.old + most plan.now.vars (kernel.par (branches_of branches.now)) < 2 ^ 32 }
+    requires room { length e.old
+        + most plan.now.vars (kernel.par (branches_of branches.now)) < 2 ^ 32 }
     ensures code { OnOk result (Emitted
         (ParEmits plan.now (sides_of sides.now) (branches_of branches.now))
         e.old e.new left.old.items left.new.items) }
@@ -92,14 +94,15 @@ fn emit_several(
     requires built_others { BranchesAreBuilt (branches_of others.now) }
     requires shallow { AreShallow (statements_of first.now) }
     requires shallow_others { BranchesAreShallow (branches_of others.now) }
-    requires few { ParsAreFew (statements_of first.now) }
-    requires few_others { ParsInBranchesAreFew (branches_of others.now) }
+    requires narrow { AreNarrow (statements_of first.now) }
+    requires narrow_others { BranchesAreNarrow (branches_of others.now) }
     requires several { 1 ≤ length others.now }
     requires count { length others.now ≤ 7 }
     requires as_many { length each.now ≡ length others.now }
     requires stack { plan.now.first_stack ≤ 16384 }
     requires room { length e.old + most_of_all plan.now.vars (statements_of first.now)
-        + most_of_branches plan.now.vars (branches_of others.now) + 13 * length others.now + 14 < 2 ^ 32 }
+        + most_of_branches plan.now.vars (branches_of others.now)
+        + 13 * length others.now + 14 < 2 ^ 32 }
     ensures code { OnOk result (Emitted
         (SeveralBranches plan.now (branch_count (branches_of others.now))
         (AllEmit plan.now (sides_of own.now) (statements_of first.now))
@@ -149,13 +152,14 @@ fn emit_slaves(
 ) -> Result<(), Memory>
     requires built { BranchesAreBuilt (branches_of branches.now) }
     requires shallow { BranchesAreShallow (branches_of branches.now) }
-    requires few { ParsInBranchesAreFew (branches_of branches.now) }
+    requires narrow { BranchesAreNarrow (branches_of branches.now) }
     requires stack { plan.now.first_stack ≤ 16384 }
     requires as_many { length each.now ≡ length branches.now }
     requires as_many_starts { length starts.now ≡ length branches.now }
     requires landable { AreLandable e.old (indices_of starts.now) }
-    requires room { length e.old + most_of_branches plan.now.vars (branches_of branches.now) < 2 ^ 32 }
-    ensures code { OnOk result (SlavesEmitted
+    requires room { length e.old
+        + most_of_branches plan.now.vars (branches_of branches.now) < 2 ^ 32 }
+    ensures code { OnOk result (StartsEmitted
         (SlavesEmitIn plan.now (map sides_of each.now) (branches_of branches.now))
         (indices_of starts.now) e.old e.new left.old.items left.new.items) }
     ensures size { OnOk result (length e.new
@@ -190,7 +194,7 @@ fn emit_slave(
 ) -> Result<(), Memory>
     requires built { AreBuilt (statements_of body.now) }
     requires shallow { AreShallow (statements_of body.now) }
-    requires few { ParsAreFew (statements_of body.now) }
+    requires narrow { AreNarrow (statements_of body.now) }
     requires stack { plan.now.first_stack ≤ 16384 }
     requires open_start { IsOpen e.old start.index }
     requires room { length e.old + most_of_all plan.now.vars (statements_of body.now) + 1 < 2 ^ 32 }

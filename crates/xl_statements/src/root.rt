@@ -3,7 +3,7 @@ ghost use Rattle.xs_instr.specs.Adds.{Adds};
 ghost use Rattle.xs_instr.specs.Extends.{Extends};
 ghost use Rattle.xs_instr.specs.Lines.{last_pos};
 ghost use Rattle.xl_ends.specs.Sides.{sides_of};
-ghost use Rattle.xl_statements.specs.Built.{AreBuilt, AreShallow, ParsAreFew, most_of_all, statements_of};
+ghost use Rattle.xl_statements.specs.Built.{AreBuilt, AreNarrow, AreShallow, most_of_all, statements_of};
 ghost use Rattle.xl_statements.specs.Inside.{AreInside, StandAlone};
 ghost use Rattle.xl_statements.specs.Laws.{RootsStand};
 ghost use Rattle.xl_statements.specs.Roots.{IsRoot};
@@ -30,7 +30,7 @@ pub fn emit_root(
 ) -> Result<(), Memory>
     requires built { AreBuilt (statements_of body.now) }
     requires shallow { AreShallow (statements_of body.now) }
-    requires few { ParsAreFew (statements_of body.now) }
+    requires narrow { AreNarrow (statements_of body.now) }
     requires inside { AreInside [] (statements_of body.now) }
     requires stack { plan.now.first_stack ≤ 16384 }
     requires room { length e.old + most_of_all plan.now.vars (statements_of body.now) + 1 < 2 ^ 32 }

@@ -4,27 +4,21 @@ ghost use Rattle.xs_instr.specs.Extends.{Extends};
 ghost use Rattle.xs_instr.specs.Lines.{last_pos};
 ghost use Rattle.xl_expr.specs.Measures.{depth, nodes};
 ghost use Rattle.xl_ends.specs.Sides.{sides_of};
-ghost use Rattle.xl_statements.specs.Built.{AreBuilt, AreShallow, HasFewBranches, IsBuilt, IsShallow, ParsAreFew, most, most_levels, most_of_all, statements_of};
-ghost use Rattle.xl_statements.specs.Cells.{leaving};
-ghost use Rattle.xl_statements.specs.Emits.{AllEmit, Branching, Closes, Emits, Emitted, OneSide, LoopCode, TwoSides};
-ghost use Rattle.xl_statements.specs.Landing.{Closable, closed_lines, others_leaving};
+ghost use Rattle.xl_statements.specs.Built.{AreBuilt, AreNarrow, AreShallow, IsBuilt, IsNarrow, IsShallow, most, most_levels, most_of_all, statements_of};
+ghost use Rattle.xl_statements.specs.Emits.{AllEmit, Branching, Closes, Emits, Emitted, LoopCode, OneSide, TwoSides};
+ghost use Rattle.xl_statements.specs.declared.leaving.JumpTarget.TheVariants.{BlockEnd};
 
+use crate::leaving::{JumpTarget, Leaving, emit_leaving, end_here};
 use crate::par::emit_par;
+use crate::select::emit_select;
 use crate::transfer::{emit_input, emit_output};
 use std::alloc::Global;
 use xc_kernel::{Kst, Kx};
 use xl_ends::Side;
 use xl_expr::Plan;
 use xl_flow::{emit_back, emit_jump, emit_set, emit_test, emit_zero};
-use xs_instr::{Emitter, Hole};
+use xs_instr::Emitter;
 use xw_words::{List, Memory};
-
-/// A jump out of a block that has not ended yet, and the block's number.
-#[derive(Clone, Copy)]
-pub struct Leaving {
-    pub block: u32,
-    pub hole: Hole,
-}
 
 /// The code of statements that stand in these sides of channels, and the jumps out of blocks around them, which are still open.
 ///
@@ -38,11 +32,13 @@ pub fn emit_statements(
 ) -> Result<List<Leaving>, Memory>
     requires built { AreBuilt (statements_of statements.now) }
     requires shallow { AreShallow (statements_of statements.now) }
-    requires few { ParsAreFew (statements_of statements.now) }
+    requires narrow { AreNarrow (statements_of statements.now) }
     requires stack { plan.now.first_stack ≤ 16384 }
-    requires room { length e.old + most_of_all plan.now.vars (statements_of statements.now) < 2 ^ 32 }
+    requires room { length e.old
+        + most_of_all plan.now.vars (statements_of statements.now) < 2 ^ 32 }
     ensures code { IfOk result (λ left. Emitted
-        (AllEmit plan.now (sides_of sides.now) (statements_of statements.now)) e.old e.new [] left) }
+        (AllEmit plan.now (sides_of sides.now) (statements_of statements.now))
+        e.old e.new [] left) }
     ensures size { OnOk result
         (length e.new ≤ length e.old + most_of_all plan.now.vars (statements_of statements.now)) }
     ensures refused { OnErr result (Extends e.old e.new) }
@@ -52,7 +48,7 @@ pub fn emit_statements(
     Ok(List::from_vec(left))
 }
 
-/// The code of statements, one after the other; their jumps out of blocks go behind those in `left`.
+/// The code of statements, one after the other; their jumps to ends go behind those in `left`.
 #[cycle(statement)]
 pub(crate) fn emit_all(
     alloc: Global,
@@ -64,9 +60,10 @@ pub(crate) fn emit_all(
 ) -> Result<(), Memory>
     requires built { AreBuilt (statements_of statements.now) }
     requires shallow { AreShallow (statements_of statements.now) }
-    requires few { ParsAreFew (statements_of statements.now) }
+    requires narrow { AreNarrow (statements_of statements.now) }
     requires stack { plan.now.first_stack ≤ 16384 }
-    requires room { length e.old + most_of_all plan.now.vars (statements_of statements.now) < 2 ^ 32 }
+    requires room { length e.old
+        + most_of_all plan.now.vars (statements_of statements.now) < 2 ^ 32 }
     ensures code { OnOk result (Emitted
         (AllEmit plan.now (sides_of sides.now) (statements_of statements.now))
         e.old e.new left.old.items left.new.items) }
@@ -91,7 +88,7 @@ fn emit_one(
 ) -> Result<(), Memory>
     requires built { IsBuilt (statement_of statement.now) }
     requires shallow { IsShallow (statement_of statement.now) }
-    requires few { HasFewBranches (statement_of statement.now) }
+    requires narrow { IsNarrow (statement_of statement.now) }
     requires stack { plan.now.first_stack ≤ 16384 }
     requires room { length e.old + most plan.now.vars (statement_of statement.now) < 2 ^ 32 }
     ensures code { OnOk result (Emitted
@@ -139,9 +136,9 @@ fn emit_one(
             inside.as_slice(),
             left,
         ),
-        Kst::Exit(block) => emit_exit(e, *block, left),
+        Kst::Exit(block) => emit_leaving(e, JumpTarget::BlockEnd(*block), left),
         Kst::Par(branches) => emit_par(alloc, e, plan, sides, branches.as_slice(), left),
-        Kst::Select(_) => unreachable!(),
+        Kst::Select(select) => emit_select(alloc, e, plan, sides, select, left),
         Kst::Tran { .. } => unreachable!(),
     }
 }
@@ -162,8 +159,8 @@ fn emit_if(
     requires shallow { depth (expression_of test.now) ≤ most_levels }
     requires shallow_first { AreShallow (statements_of first.now) }
     requires shallow_second { AreShallow (statements_of second.now) }
-    requires few_first { ParsAreFew (statements_of first.now) }
-    requires few_second { ParsAreFew (statements_of second.now) }
+    requires narrow_first { AreNarrow (statements_of first.now) }
+    requires narrow_second { AreNarrow (statements_of second.now) }
     requires stack { plan.now.first_stack ≤ 16384 }
     requires room { length e.old + 8 * nodes (expression_of test.now)
         + most_of_all plan.now.vars (statements_of first.now)
@@ -198,7 +195,7 @@ fn emit_one_side(
     requires built { AreBuilt (statements_of first.now) }
     requires shallow { depth (expression_of test.now) ≤ most_levels }
     requires shallow_first { AreShallow (statements_of first.now) }
-    requires few_first { ParsAreFew (statements_of first.now) }
+    requires narrow_first { AreNarrow (statements_of first.now) }
     requires stack { plan.now.first_stack ≤ 16384 }
     requires room { length e.old + 8 * nodes (expression_of test.now)
         + most_of_all plan.now.vars (statements_of first.now) + 1 < 2 ^ 32 }
@@ -233,8 +230,8 @@ fn emit_two_sides(
     requires shallow { depth (expression_of test.now) ≤ most_levels }
     requires shallow_first { AreShallow (statements_of first.now) }
     requires shallow_second { AreShallow (statements_of second.now) }
-    requires few_first { ParsAreFew (statements_of first.now) }
-    requires few_second { ParsAreFew (statements_of second.now) }
+    requires narrow_first { AreNarrow (statements_of first.now) }
+    requires narrow_second { AreNarrow (statements_of second.now) }
     requires stack { plan.now.first_stack ≤ 16384 }
     requires room { length e.old + 8 * nodes (expression_of test.now)
         + most_of_all plan.now.vars (statements_of first.now)
@@ -276,8 +273,8 @@ fn emit_loop(
     requires shallow { depth (expression_of test.now) ≤ most_levels }
     requires shallow_body { AreShallow (statements_of body.now) }
     requires shallow_next { AreShallow (statements_of next.now) }
-    requires few_body { ParsAreFew (statements_of body.now) }
-    requires few_next { ParsAreFew (statements_of next.now) }
+    requires narrow_body { AreNarrow (statements_of body.now) }
+    requires narrow_next { AreNarrow (statements_of next.now) }
     requires stack { plan.now.first_stack ≤ 16384 }
     requires room { length e.old + 8 * nodes (expression_of test.now)
         + most_of_all plan.now.vars (statements_of body.now)
@@ -315,11 +312,11 @@ fn emit_block(
 ) -> Result<(), Memory>
     requires built { AreBuilt (statements_of inside.now) }
     requires shallow { AreShallow (statements_of inside.now) }
-    requires few { ParsAreFew (statements_of inside.now) }
+    requires narrow { AreNarrow (statements_of inside.now) }
     requires stack { plan.now.first_stack ≤ 16384 }
     requires room { length e.old + most_of_all plan.now.vars (statements_of inside.now) < 2 ^ 32 }
     ensures code { OnOk result (Emitted
-        (Closes block (AllEmit plan.now (sides_of sides.now) (statements_of inside.now)))
+        (Closes (BlockEnd block) (AllEmit plan.now (sides_of sides.now) (statements_of inside.now)))
         e.old e.new left.old.items left.new.items) }
     ensures size { OnOk result
         (length e.new ≤ length e.old + most_of_all plan.now.vars (statements_of inside.now)) }
@@ -327,51 +324,5 @@ fn emit_block(
 {
     let outside = left.len();
     emit_all(alloc, e, plan, sides, inside, left)?;
-    let inner = left.split_off(outside)?;
-    land_jumps(e, block, inner.as_slice());
-    push_others(left, block, inner.as_slice())?;
-    Ok(())
-}
-
-/// The code of a jump out of a block.
-fn emit_exit(e: &mut Emitter, block: u32, left: &mut Vec<Leaving>) -> Result<(), Memory>
-    requires { length e.old + 1 < 2 ^ 32 }
-    ensures code { OnOk result (Emitted (λ last pc cells. cells ≡ leaving block last ∷ [])
-        e.old e.new left.old.items left.new.items) }
-    ensures size { OnOk result (length e.new ≤ length e.old + 1) }
-    ensures refused { OnErr result (Extends e.old e.new) }
-{
-    let last = e.pos();
-    let hole = emit_jump(e, last)?;
-    match left.push(Leaving { block, hole }) {
-        Ok(()) => Ok(()),
-        Err(_) => Err(Memory),
-    }
-}
-
-/// The jumps out of a block land.
-fn land_jumps(e: &mut Emitter, block: u32, inner: &[Leaving])
-    requires { Closable e.old block (length e.old) inner.now }
-    ensures { e.new ≡ closed_lines e.old block (length e.old) inner.now }
-{
-    for jump in inner {
-        if jump.block == block {
-            e.land(jump.hole);
-        }
-    }
-}
-
-/// The jumps out of other blocks are left.
-fn push_others(left: &mut Vec<Leaving>, block: u32, inner: &[Leaving]) -> Result<(), Memory>
-    ensures { OnOk result (left.new.items ≡ left.old.items ++ others_leaving block inner.now) }
-{
-    for jump in inner {
-        if jump.block != block {
-            match left.push(*jump) {
-                Ok(()) => {}
-                Err(_) => return Err(Memory),
-            }
-        }
-    }
-    Ok(())
+    end_here(e, JumpTarget::BlockEnd(block), outside, left)
 }

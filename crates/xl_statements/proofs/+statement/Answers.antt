@@ -1,7 +1,8 @@
-use Rattle.std.proofs.Common.{arith, ◌≡◌, ◌+◌, ◌-◌, ◌*◌, ◌<◌, ◌≤◌, ◌^◌, [], ◌∷◌, ◌++◌, length, get_or, map, drop, take, sym, ap, ◌∙◌, subst, length-append}
+use Rattle.std.proofs.Common.{arith, ◌≡◌, ◌+◌, ◌-◌, ◌*◌, ◌<◌, ◌≤◌, ◌^◌, [], ◌∷◌, ◌++◌, length, get_or, map, option_map, true, drop, take, sym, ap, ◌∙◌, subst, length-append}
 use Rattle.std.proofs.lemmas.List.{length-map}
 use Rattle.std.proofs.Math.ListN.{drop_of_length-le}
-use Rattle.xc_kernel.specs.Kernels.{expression_of, input_of, output_of, place_of, statement_of}
+use Rattle.xc_kernel.specs.Kernels.{default_of, expression_of, input_of, output_of, place_of, select_of, statement_of}
+use Rattle.xc_kernel.specs.declared.statement.KSelect.{out-KSelect}
 use Rattle.xc_kernel.specs.Plain as kernel
 use Rattle.xc_kernel.proofs.Forms.{statement-If, statement-Loop, statement-Block, statement-Par, statement-Zero, statement-Set, statement-Out, statement-In, statement-Exit, statement-Select, statement-Tran, select-KSelect}
 use Rattle.xs_instr.specs.Extends.{Extends}
@@ -14,30 +15,38 @@ use Rattle.xl_expr.proofs.Emitted.{on_err}
 use Rattle.xl_flow.specs.Flow.{Sets}
 use Rattle.xl_flow.specs.Zeros.{Zeroes}
 use Rattle.xl_par.specs.Opening.{indices_of}
+use Rattle.xl_select.specs.Entry.{EntersCase}
+use Rattle.xl_select.specs.Holes.{listed}
+use Rattle.xl_select.specs.OpeningCode.{cases_in, cases_of, cases_parts, index_of}
 use Rattle.xl_ends.specs.Branches.{sides_of_each}
 use Rattle.xl_ends.specs.Ends.{codes_in}
 use Rattle.xl_ends.specs.Sides.{sides_of}
 use Rattle.xl_statements.specs.Branches.{SlavesEmitIn}
-use Rattle.xl_statements.specs.Built.{BranchesAreBuilt, BranchesAreShallow, HasFewBranches, IsBuilt, IsShallow, ParsInBranchesAreFew, branches_of, most, most_of_all, most_of_branches, statements_of}
-use Rattle.xl_statements.specs.Emits.{AllEmit, Branching, Emitted, OneSide, ParEmits, SeveralBranches, TwoSides}
-use Rattle.xl_statements.specs.Landing.{Lands, others_leaving}
-use Rattle.xl_statements.proofs.Arms.{no_branch_emits, no_more, ok_as, ok_one_more, ok_summed, ok_within, on_err_on, piece_emits, slave_ends, statement_emits, statement_within, transfer_emits}
-use Rattle.xl_statements.proofs.Blocks.{block_emitted, block_extends, block_open, block_size}
+use Rattle.xl_statements.specs.Built.{BranchesAreBuilt, BranchesAreNarrow, BranchesAreShallow, DefaultIsBuilt, DefaultIsNarrow, DefaultIsShallow, IsBuilt, IsNarrow, IsShallow, branches_of, most, most_of_all, most_of_branches, most_of_default, statements_of}
+use Rattle.xl_statements.specs.CaseEnds.{case_end}
+use Rattle.xl_statements.specs.Emits.{AllEmit, Branching, CaseCode, Emitted, OneSide, ParEmits, SeveralBranches, TwoSides, is_last}
+use Rattle.xl_statements.specs.Landing.{Lands}
+use Rattle.xl_statements.proofs.Arms.{no_branch_emits, no_more, ok_as, ok_one_more, ok_summed, ok_within, on_err_on, on_ok, piece_emits, slave_ends, statement_emits, statement_within, transfer_emits}
+use Rattle.xl_statements.specs.declared.leaving.JumpTarget.TheVariants.{BlockEnd}
+use Rattle.xl_statements.proofs.Blocks.{block_ends, closed_extends, closed_size, inner_closable, outside_within}
 use Rattle.xl_statements.proofs.Seams.{as_long, extends_by, extends_on}
 use Rattle.xl_statements.proofs.Sides.{branch_one, branch_two, extends_4, length_4, one_open, one_side_emitted, over_open, past_open, sides_emitted}
 use Rattle.xl_statements.proofs.Several.{aimed_so, holes_landable, jump_open, opened, opens_so, several_emitted, several_end, several_length, several_refused, starts_are, starts_length}
 use Rattle.xl_statements.proofs.NextSlave.{next_slave, slaves_over}
 use Rattle.xl_statements.proofs.OwnSides.{first_sides, one_in, others_sides, several_in, sides_count}
-use Rattle.xl_statements.proofs.Slaves.{branch_lighter, branches_count, first_branch, indices_length, one_branch, slave_refused, slaves_begin, slaves_go_on, start_open}
-use Rattle.xl_statements.proofs.Starts.{landed_size}
+use Rattle.xl_statements.proofs.Cases.{case_code, case_lighter, case_open, case_refused, cases_begin, cases_count, cases_end, cases_go_on, cases_refused, default_code, default_is, default_landable, default_refused, no_default_code, some_weight_of_cases}
+use Rattle.xl_statements.proofs.NextCase.{cases_over, next_case, rest_is}
+use Rattle.xl_statements.proofs.Selects.{ends_as_many, opened_by, select_is, whole_closable, whole_count, whole_ends, whole_extends, whole_landable, whole_refused, whole_size, whole_within}
+use Rattle.xl_statements.proofs.Slaves.{branch_lighter, branches_count, first_branch, indices_length, one_branch, slave_refused, slaves_begin, slave_open, slaves_go_on}
+use Rattle.xl_statements.proofs.Starts.{all_size, landed_size}
 use Rattle.xl_statements.proofs.Turns.{out_open, turns_emitted}
-use Rattle.xl_statements.proofs.Walks.{Walked, branch_weights, lighter, statements_at, walk_begins, walk_ends, walk_goes_on, weight, weights}
+use Rattle.xl_statements.proofs.Walks.{Walked, branch_weights, default_weight, lighter, statements_at, walk_begins, walk_ends, walk_goes_on, weight, weights}
 use Rattle.xl_statements.proofs.+statement.Goals as goal
 
 -- one after another
 
 pub walk::emit_all-loop-statement-init : goal.walk::emit_all-loop-statement-init
-walk::emit_all-loop-statement-init t c = walk_begins c.args.plan.now (sides_of c.args.sides.now) (statements_of c.args.statements.now) c.args.e.now c.args.left.now.items c.requires.built c.requires.shallow c.requires.few
+walk::emit_all-loop-statement-init t c = walk_begins c.args.plan.now (sides_of c.args.sides.now) (statements_of c.args.statements.now) c.args.e.now c.args.left.now.items c.requires.built c.requires.shallow c.requires.narrow
 
 pub walk::emit_all-bounds-statements-statement-index : goal.walk::emit_all-bounds-statements-statement-index
 walk::emit_all-bounds-statements-statement-index t c = c.loop-statement-test.true
@@ -49,7 +58,7 @@ walk::emit_all-emit_one-requires t c =
     let x = c.statement-item.result in
     let l = lighter ss i x c.statement-item.is c.loop-statement-test.true in
     let h = subst (λ p. Walked c.args.plan.now (sides_of c.args.sides.now) (statements_of ss) p c.args.e.now c.loop-statement.e c.args.left.now.items c.loop-statement.left.items) (statements_at ss i x c.statement-item.is c.loop-statement-test.true) c.loop-statement.invariant in
-    (omega (arith, l, c.decreases), (h.built.0, (h.shallow.0, (h.few.0, (c.requires.stack, omega (arith, h.room, c.requires.room))))))
+    (omega (arith, l, c.decreases), (h.built.0, (h.shallow.0, (h.narrow.0, (c.requires.stack, omega (arith, h.room, c.requires.room))))))
 
 pub walk::emit_all-loop-statement-preserved : goal.walk::emit_all-loop-statement-preserved
 walk::emit_all-loop-statement-preserved t c =
@@ -63,7 +72,7 @@ walk::emit_all-loop-statement-preserved t c =
 
 pub walk::emit_one_side-emit_all-requires : goal.walk::emit_one_side-emit_all-requires
 walk::emit_one_side-emit_all-requires t c =
-    (omega (arith, c.decreases), (c.requires.built, (c.requires.shallow_first, (c.requires.few_first, (c.requires.stack, omega (arith, c.in_ok-past.ensures.size, c.requires.room))))))
+    (omega (arith, c.decreases), (c.requires.built, (c.requires.shallow_first, (c.requires.narrow_first, (c.requires.stack, omega (arith, c.in_ok-past.ensures.size, c.requires.room))))))
 
 pub walk::emit_one_side-land-requires : goal.walk::emit_one_side-land-requires
 walk::emit_one_side-land-requires t c =
@@ -85,7 +94,7 @@ walk::emit_if-returns-else-second-eq0-clause-code t c =
 
 pub walk::emit_two_sides-emit_all-requires : goal.walk::emit_two_sides-emit_all-requires
 walk::emit_two_sides-emit_all-requires t c =
-    (omega (arith, c.decreases), (c.requires.built, (c.requires.shallow_first, (c.requires.few_first, (c.requires.stack, omega (arith, c.in_ok-past.ensures.size, c.requires.room))))))
+    (omega (arith, c.decreases), (c.requires.built, (c.requires.shallow_first, (c.requires.narrow_first, (c.requires.stack, omega (arith, c.in_ok-past.ensures.size, c.requires.room))))))
 
 pub walk::emit_two_sides-land-requires : goal.walk::emit_two_sides-land-requires
 walk::emit_two_sides-land-requires t c =
@@ -95,7 +104,7 @@ pub walk::emit_two_sides-emit_all-requires-2 : goal.walk::emit_two_sides-emit_al
 walk::emit_two_sides-emit_all-requires-2 t c =
     let same = length_4 c.args.plan.now.vars (expression_of c.args.test.now) (AllEmit c.args.plan.now (sides_of c.args.sides.now) (statements_of c.args.first.now)) (AllEmit c.args.plan.now (sides_of c.args.sides.now) (statements_of c.args.second.now)) c.args.e.now c.emit_test.new.e c.emit_all.new.e c.emit_jump.new.e c.land.new.self c.args.left.now.items c.emit_all.new.left.items c.in_ok-past.past.index c.in_ok-over.over.index c.pos-last.result c.in_ok-past.ensures.tests c.in_ok-past.ensures.aimed c.in_ok-emit_all.ensures.code (c.in_ok-over.ensures.code ∙ ap (λ p. c.emit_all.new.e ++ open_line (Brfu 0) p ∷ []) c.pos-last-2.ensures) c.in_ok-over.ensures.index c.land.ensures in
     let jump = ap length c.in_ok-over.ensures.code ∙ length-append c.emit_all.new.e (open_line (Brfu 0) c.pos-last-2.result ∷ []) in
-    (omega (arith, c.decreases), (c.requires.built_second, (c.requires.shallow_second, (c.requires.few_second, (c.requires.stack, omega (arith, same, jump, c.in_ok-emit_all.ensures.size, c.in_ok-past.ensures.size, c.requires.room))))))
+    (omega (arith, c.decreases), (c.requires.built_second, (c.requires.shallow_second, (c.requires.narrow_second, (c.requires.stack, omega (arith, same, jump, c.in_ok-emit_all.ensures.size, c.in_ok-past.ensures.size, c.requires.room))))))
 
 pub walk::emit_two_sides-returns-in_err-emit_all-2-clause-refused : goal.walk::emit_two_sides-returns-in_err-emit_all-2-clause-refused
 walk::emit_two_sides-returns-in_err-emit_all-2-clause-refused t c =
@@ -114,11 +123,11 @@ walk::emit_two_sides-returns-clause-code t c =
 
 pub walk::emit_loop-emit_all-requires : goal.walk::emit_loop-emit_all-requires
 walk::emit_loop-emit_all-requires t c =
-    (omega (arith, c.decreases), (c.requires.built, (c.requires.shallow_body, (c.requires.few_body, (c.requires.stack, omega (arith, c.in_ok-out.ensures.size, c.requires.room))))))
+    (omega (arith, c.decreases), (c.requires.built, (c.requires.shallow_body, (c.requires.narrow_body, (c.requires.stack, omega (arith, c.in_ok-out.ensures.size, c.requires.room))))))
 
 pub walk::emit_loop-emit_all-requires-2 : goal.walk::emit_loop-emit_all-requires-2
 walk::emit_loop-emit_all-requires-2 t c =
-    (omega (arith, c.decreases), (c.requires.built_next, (c.requires.shallow_next, (c.requires.few_next, (c.requires.stack, omega (arith, c.in_ok-emit_all.ensures.size, c.in_ok-out.ensures.size, c.requires.room))))))
+    (omega (arith, c.decreases), (c.requires.built_next, (c.requires.shallow_next, (c.requires.narrow_next, (c.requires.stack, omega (arith, c.in_ok-emit_all.ensures.size, c.in_ok-out.ensures.size, c.requires.room))))))
 
 pub walk::emit_loop-land-requires : goal.walk::emit_loop-land-requires
 walk::emit_loop-land-requires t c =
@@ -130,39 +139,32 @@ walk::emit_loop-returns-clause-code t c =
 
 -- a block
 
-pub walk::emit_block-split_off-requires : goal.walk::emit_block-split_off-requires
-walk::emit_block-split_off-requires t c =
-    let n = as_long c.args.left.now.items c.emit_all.new.left.items _ c.in_ok-emit_all.ensures.code.leaving_ones in
-    omega (arith, n, c.len-outside.ensures, c.args.left.now.ok.0, c.emit_all.new.left.ok.0)
-
-pub walk::emit_block-land_jumps-requires : goal.walk::emit_block-land_jumps-requires
-walk::emit_block-land_jumps-requires t c =
+pub walk::emit_block-end_here-requires-clause-within : goal.walk::emit_block-end_here-requires-clause-within
+walk::emit_block-end_here-requires-clause-within t c =
     let n : c.len-outside.result ≡ length c.args.left.now.items = omega (arith, c.len-outside.ensures, c.args.left.now.ok.0) in
-    let tail : c.as_slice.result.now ≡ drop (length c.args.left.now.items) c.emit_all.new.left.items = c.as_slice.ensures.value ∙ c.in_ok-inner.ensures.tail ∙ ap (λ k. drop k c.emit_all.new.left.items) n in
-    block_open (AllEmit c.args.plan.now (sides_of c.args.sides.now) (statements_of c.args.inside.now)) c.args.block c.args.e.now c.emit_all.new.e c.args.left.now.items c.emit_all.new.left.items c.as_slice.result.now c.in_ok-emit_all.ensures.code tail
+    outside_within (AllEmit c.args.plan.now (sides_of c.args.sides.now) (statements_of c.args.inside.now)) (BlockEnd c.args.block) c.args.e.now c.emit_all.new.e c.args.left.now.items c.emit_all.new.left.items c.in_ok-emit_all.ensures.code c.len-outside.result n
 
-pub walk::emit_block-returns-in_err-push_others-clause-refused : goal.walk::emit_block-returns-in_err-push_others-clause-refused
-walk::emit_block-returns-in_err-push_others-clause-refused t c =
+pub walk::emit_block-end_here-requires-clause-closable : goal.walk::emit_block-end_here-requires-clause-closable
+walk::emit_block-end_here-requires-clause-closable t c =
     let n : c.len-outside.result ≡ length c.args.left.now.items = omega (arith, c.len-outside.ensures, c.args.left.now.ok.0) in
-    let tail : c.as_slice.result.now ≡ drop (length c.args.left.now.items) c.emit_all.new.left.items = c.as_slice.ensures.value ∙ c.in_ok-inner.ensures.tail ∙ ap (λ k. drop k c.emit_all.new.left.items) n in
-    on_err c.from_residual-in_err-push_others.result (Extends c.args.e.now c.land_jumps.new.e)
-    (block_extends (AllEmit c.args.plan.now (sides_of c.args.sides.now) (statements_of c.args.inside.now)) c.args.block c.args.e.now c.emit_all.new.e c.args.left.now.items c.emit_all.new.left.items c.as_slice.result.now c.in_ok-emit_all.ensures.code tail c.land_jumps.new.e c.land_jumps.ensures)
+    inner_closable (AllEmit c.args.plan.now (sides_of c.args.sides.now) (statements_of c.args.inside.now)) (BlockEnd c.args.block) c.args.e.now c.emit_all.new.e c.args.left.now.items c.emit_all.new.left.items c.in_ok-emit_all.ensures.code c.len-outside.result n
+
+pub walk::emit_block-returns-clause-refused : goal.walk::emit_block-returns-clause-refused
+walk::emit_block-returns-clause-refused t c =
+    let n : c.len-outside.result ≡ length c.args.left.now.items = omega (arith, c.len-outside.ensures, c.args.left.now.ok.0) in
+    on_err c.end_here.result (Extends c.args.e.now c.end_here.new.e)
+    (closed_extends (AllEmit c.args.plan.now (sides_of c.args.sides.now) (statements_of c.args.inside.now)) (BlockEnd c.args.block) c.args.e.now c.emit_all.new.e c.args.left.now.items c.emit_all.new.left.items c.in_ok-emit_all.ensures.code c.len-outside.result n c.end_here.new.e c.end_here.ensures.lines)
 
 pub walk::emit_block-returns-clause-code : goal.walk::emit_block-returns-clause-code
 walk::emit_block-returns-clause-code t c =
     let n : c.len-outside.result ≡ length c.args.left.now.items = omega (arith, c.len-outside.ensures, c.args.left.now.ok.0) in
-    let tail : c.as_slice.result.now ≡ drop (length c.args.left.now.items) c.emit_all.new.left.items = c.as_slice.ensures.value ∙ c.in_ok-inner.ensures.tail ∙ ap (λ k. drop k c.emit_all.new.left.items) n in
-    let front : c.split_off.new.self.items ≡ take (length c.args.left.now.items) c.emit_all.new.left.items = c.in_ok-inner.ensures.items ∙ ap (λ k. take k c.emit_all.new.left.items) n in
-    let same : c.as_slice-2.result.now ≡ c.as_slice.result.now = c.as_slice-2.ensures.value ∙ sym c.as_slice.ensures.value in
-    let others : c.push_others.new.left.items ≡ c.split_off.new.self.items ++ others_leaving c.args.block c.as_slice.result.now = c.in_ok-push_others.ensures ∙ ap (λ l. c.split_off.new.self.items ++ others_leaving c.args.block l) same in
-    block_emitted (AllEmit c.args.plan.now (sides_of c.args.sides.now) (statements_of c.args.inside.now)) c.args.block c.args.e.now c.emit_all.new.e c.args.left.now.items c.emit_all.new.left.items c.as_slice.result.now c.in_ok-emit_all.ensures.code tail c.land_jumps.new.e c.land_jumps.ensures c.split_off.new.self.items c.push_others.new.left.items front others
+    block_ends (AllEmit c.args.plan.now (sides_of c.args.sides.now) (statements_of c.args.inside.now)) (BlockEnd c.args.block) c.args.e.now c.emit_all.new.e c.args.left.now.items c.emit_all.new.left.items c.in_ok-emit_all.ensures.code c.len-outside.result n c.end_here.new.e c.end_here.ensures.lines c.end_here.result c.end_here.new.left.items c.end_here.ensures.others
 
 pub walk::emit_block-returns-clause-size : goal.walk::emit_block-returns-clause-size
 walk::emit_block-returns-clause-size t c =
     let n : c.len-outside.result ≡ length c.args.left.now.items = omega (arith, c.len-outside.ensures, c.args.left.now.ok.0) in
-    let tail : c.as_slice.result.now ≡ drop (length c.args.left.now.items) c.emit_all.new.left.items = c.as_slice.ensures.value ∙ c.in_ok-inner.ensures.tail ∙ ap (λ k. drop k c.emit_all.new.left.items) n in
-    let same = block_size (AllEmit c.args.plan.now (sides_of c.args.sides.now) (statements_of c.args.inside.now)) c.args.block c.args.e.now c.emit_all.new.e c.args.left.now.items c.emit_all.new.left.items c.as_slice.result.now c.in_ok-emit_all.ensures.code tail c.land_jumps.new.e c.land_jumps.ensures in
-    omega (arith, same, c.in_ok-emit_all.ensures.size)
+    let same = closed_size (AllEmit c.args.plan.now (sides_of c.args.sides.now) (statements_of c.args.inside.now)) (BlockEnd c.args.block) c.args.e.now c.emit_all.new.e c.args.left.now.items c.emit_all.new.left.items c.in_ok-emit_all.ensures.code c.len-outside.result n c.end_here.new.e c.end_here.ensures.lines in
+    on_ok c.end_here.result (length c.end_here.new.e ≤ length c.args.e.now + most_of_all c.args.plan.now.vars (statements_of c.args.inside.now)) (omega (arith, same, c.in_ok-emit_all.ensures.size))
 
 -- one statement
 
@@ -190,9 +192,9 @@ walk::emit_one-emit_if-requires t c =
     let is : statement_of c.args.statement.now ≡ kernel.if_then x a b = ap statement_of c.in-If.is ∙ statement-If c.in-If.test c.in-If.first c.in-If.second ∙ ap (λ l. kernel.if_then x (statements_of l) (statements_of c.in-If.second)) (sym c.as_slice.ensures) ∙ ap (λ l. kernel.if_then x a (statements_of l)) (sym c.as_slice-in-If.ensures) in
     let built = subst IsBuilt is c.requires.built in
     let shallow = subst IsShallow is c.requires.shallow in
-    let few = subst HasFewBranches is c.requires.few in
+    let narrow = subst IsNarrow is c.requires.narrow in
     let room = subst (λ s. length c.args.e.now + most c.args.plan.now.vars s < 2 ^ 32) is c.requires.room in
-    (omega (arith, ap weight is, c.decreases), (built.0, (built.1, (shallow.0, (shallow.1, (shallow.2, (few.0, (few.1, (c.requires.stack, omega (arith, room))))))))))
+    (omega (arith, ap weight is, c.decreases), (built.0, (built.1, (shallow.0, (shallow.1, (shallow.2, (narrow.0, (narrow.1, (c.requires.stack, omega (arith, room))))))))))
 
 pub walk::emit_one-emit_loop-requires : goal.walk::emit_one-emit_loop-requires
 walk::emit_one-emit_loop-requires t c =
@@ -202,22 +204,22 @@ walk::emit_one-emit_loop-requires t c =
     let is : statement_of c.args.statement.now ≡ kernel.loop x a b = ap statement_of c.in-Loop.is ∙ statement-Loop c.in-Loop.test c.in-Loop.body c.in-Loop.next ∙ ap (λ l. kernel.loop x (statements_of l) (statements_of c.in-Loop.next)) (sym c.as_slice-in-Loop.ensures) ∙ ap (λ l. kernel.loop x a (statements_of l)) (sym c.as_slice-in-Loop-2.ensures) in
     let built = subst IsBuilt is c.requires.built in
     let shallow = subst IsShallow is c.requires.shallow in
-    let few = subst HasFewBranches is c.requires.few in
+    let narrow = subst IsNarrow is c.requires.narrow in
     let room = subst (λ s. length c.args.e.now + most c.args.plan.now.vars s < 2 ^ 32) is c.requires.room in
-    (omega (arith, ap weight is, c.decreases), (built.0, (built.1, (shallow.0, (shallow.1, (shallow.2, (few.0, (few.1, (c.requires.stack, omega (arith, room))))))))))
+    (omega (arith, ap weight is, c.decreases), (built.0, (built.1, (shallow.0, (shallow.1, (shallow.2, (narrow.0, (narrow.1, (c.requires.stack, omega (arith, room))))))))))
 
 pub walk::emit_one-emit_block-requires : goal.walk::emit_one-emit_block-requires
 walk::emit_one-emit_block-requires t c =
     let a = statements_of c.as_slice-in-Block.result.now in
     let is : statement_of c.args.statement.now ≡ kernel.block c.in-Block.block a = ap statement_of c.in-Block.is ∙ statement-Block c.in-Block.block c.in-Block.inside ∙ ap (λ l. kernel.block c.in-Block.block (statements_of l)) (sym c.as_slice-in-Block.ensures) in
-    (omega (arith, ap weight is, c.decreases), (subst IsBuilt is c.requires.built, (subst IsShallow is c.requires.shallow, (subst HasFewBranches is c.requires.few, (c.requires.stack, subst (λ s. length c.args.e.now + most c.args.plan.now.vars s < 2 ^ 32) is c.requires.room)))))
+    (omega (arith, ap weight is, c.decreases), (subst IsBuilt is c.requires.built, (subst IsShallow is c.requires.shallow, (subst IsNarrow is c.requires.narrow, (c.requires.stack, subst (λ s. length c.args.e.now + most c.args.plan.now.vars s < 2 ^ 32) is c.requires.room)))))
 
 pub walk::emit_one-emit_par-requires : goal.walk::emit_one-emit_par-requires
 walk::emit_one-emit_par-requires t c =
     let bs = branches_of c.as_slice-in-Par.result.now in
     let is : statement_of c.args.statement.now ≡ kernel.par bs = ap statement_of c.in-Par.is ∙ statement-Par c.in-Par.branches ∙ ap (λ l. kernel.par (branches_of l)) (sym c.as_slice-in-Par.ensures) in
-    let few = subst HasFewBranches is c.requires.few in
-    (omega (arith, ap weight is, c.decreases), (subst IsBuilt is c.requires.built, (subst IsShallow is c.requires.shallow, (few.1, (few.0, (c.requires.stack, subst (λ s. length c.args.e.now + most c.args.plan.now.vars s < 2 ^ 32) is c.requires.room))))))
+    let narrow = subst IsNarrow is c.requires.narrow in
+    (omega (arith, ap weight is, c.decreases), (subst IsBuilt is c.requires.built, (subst IsShallow is c.requires.shallow, (narrow.1, (narrow.0, (c.requires.stack, subst (λ s. length c.args.e.now + most c.args.plan.now.vars s < 2 ^ 32) is c.requires.room))))))
 
 -- what is behind the last
 
@@ -240,7 +242,7 @@ par::emit_par-emit_all-requires t c =
     let vars = c.args.plan.now.vars in
     let is : branches_of c.args.branches.now ≡ kernel.more_branches (kernel.branch (statements_of c.as_slice-in-len1.result.now) x.pos) kernel.no_branch = one_branch c.args.branches.now x c.only-item.is c.in-len1.len_at_least c.in-len1.len_below ∙ ap (λ l. kernel.more_branches (kernel.branch (statements_of l) x.pos) kernel.no_branch) (sym c.as_slice-in-len1.ensures) in
     let size = ap (λ bs. most vars (kernel.par bs)) is in
-    (omega (arith, ap branch_weights is, c.decreases), ((subst BranchesAreBuilt is c.requires.built).0, ((subst BranchesAreShallow is c.requires.shallow).0, ((subst ParsInBranchesAreFew is c.requires.few).0, (c.requires.stack, omega (arith, size, c.requires.room))))))
+    (omega (arith, ap branch_weights is, c.decreases), ((subst BranchesAreBuilt is c.requires.built).0, ((subst BranchesAreShallow is c.requires.shallow).0, ((subst BranchesAreNarrow is c.requires.narrow).0, (c.requires.stack, omega (arith, size, c.requires.room))))))
 
 pub par::emit_par-returns-in-len1-clause-code : goal.par::emit_par-returns-in-len1-clause-code
 par::emit_par-returns-in-len1-clause-code t c =
@@ -271,7 +273,7 @@ par::emit_par-emit_several-requires t c =
     let is : branches_of bs ≡ kernel.more_branches (kernel.branch (statements_of c.as_slice-in-len1-up.result.now) x.pos) (branches_of (take (length bs - 1) (drop 1 bs))) = first_branch bs x c.first-item.is c.in-len1-up.len_at_least ∙ ap (λ l. kernel.more_branches (kernel.branch (statements_of l) x.pos) (branches_of others)) (sym c.as_slice-in-len1-up.ensures) in
     let built = subst BranchesAreBuilt is c.requires.built in
     let shallow = subst BranchesAreShallow is c.requires.shallow in
-    let few = subst ParsInBranchesAreFew is c.requires.few in
+    let narrow = subst BranchesAreNarrow is c.requires.narrow in
     let count = ap branch_count is in
     let n = branches_count bs in
     let m = branches_count others in
@@ -281,7 +283,7 @@ par::emit_par-emit_several-requires t c =
     let each = ap (map sides_of) c.as_slice-each.ensures ∙ c.in_ok-each.ensures ∙ ap (sides_of_each sides []) is in
     let behind = others_sides c.as_slice-each.result.now (sides_in 0 [] ss (codes_in (branches_of others)) sides) (sides_of_each sides (ss ∷ []) (branches_of others)) each in
     let many = sym (length-map (take (length c.as_slice-each.result.now - 1) (drop 1 c.as_slice-each.result.now)) sides_of) ∙ ap length behind ∙ sides_count sides (ss ∷ []) (branches_of others) ∙ m in
-    (omega (arith, ap branch_weights is, c.decreases), (built.0, (built.1, (shallow.0, (shallow.1, (few.0, (few.1, (omega (arith, count, n, m, c.in-len1-up.len_at_least), (omega (arith, count, n, m, c.requires.count), (many, (c.requires.stack, omega (arith, size, count, m, c.requires.room))))))))))))
+    (omega (arith, ap branch_weights is, c.decreases), (built.0, (built.1, (shallow.0, (shallow.1, (narrow.0, (narrow.1, (omega (arith, count, n, m, c.in-len1-up.len_at_least), (omega (arith, count, n, m, c.requires.count), (many, (c.requires.stack, omega (arith, size, count, m, c.requires.room))))))))))))
 
 pub par::emit_par-returns-clause-code : goal.par::emit_par-returns-clause-code
 par::emit_par-returns-clause-code t c =
@@ -367,7 +369,7 @@ par::emit_several-open_par-requires-clause-room t c = omega (arith, c.requires.r
 
 pub par::emit_several-emit_all-requires : goal.par::emit_several-emit_all-requires
 par::emit_several-emit_all-requires t c =
-    (omega (arith, c.decreases), (c.requires.built, (c.requires.shallow, (c.requires.few, (c.requires.stack, omega (arith, c.in_ok-starts.ensures.size, c.requires.room))))))
+    (omega (arith, c.decreases), (c.requires.built, (c.requires.shallow, (c.requires.narrow, (c.requires.stack, omega (arith, c.in_ok-starts.ensures.size, c.requires.room))))))
 
 pub par::emit_several-emit_close-requires : goal.par::emit_several-emit_close-requires
 par::emit_several-emit_close-requires t c = omega (arith, c.in_ok-emit_all.ensures.size, c.in_ok-starts.ensures.size, c.requires.several, c.requires.room)
@@ -382,7 +384,7 @@ par::emit_several-emit_slaves-requires t c =
     let holes = ap indices_of c.as_slice.ensures ∙ starts_are (length c.args.e.now + 9) n (n + 1 - 1) (indices_of c.in_ok-starts.starts) m c.in_ok-starts.ensures.holes in
     let count : length c.as_slice.result.now ≡ length c.args.others.now = sym (indices_length c.as_slice.result.now) ∙ ap length holes ∙ starts_length (length c.args.e.now + 9) n in
     let size = several_length plan n first c.args.e.now c.open_par.new.e c.emit_all.new.e c.emit_close.new.e c.args.left.now.items c.emit_all.new.left.items at_1 c.in_ok-emit_all.ensures.code c.in_ok-past.ensures.code in
-    (omega (arith, c.decreases), (c.requires.built_others, (c.requires.shallow_others, (c.requires.few_others, (c.requires.stack, (c.requires.as_many, (count, (holes_landable plan n first c.args.e.now c.open_par.new.e c.emit_all.new.e c.emit_close.new.e c.args.left.now.items c.emit_all.new.left.items at_1 c.in_ok-emit_all.ensures.code c.in_ok-past.ensures.code (indices_of c.as_slice.result.now) holes, omega (arith, size, c.in_ok-emit_all.ensures.size, c.in_ok-starts.ensures.size, c.requires.several, c.requires.room)))))))))
+    (omega (arith, c.decreases), (c.requires.built_others, (c.requires.shallow_others, (c.requires.narrow_others, (c.requires.stack, (c.requires.as_many, (count, (holes_landable plan n first c.args.e.now c.open_par.new.e c.emit_all.new.e c.emit_close.new.e c.args.left.now.items c.emit_all.new.left.items at_1 c.in_ok-emit_all.ensures.code c.in_ok-past.ensures.code (indices_of c.as_slice.result.now) holes, omega (arith, size, c.in_ok-emit_all.ensures.size, c.in_ok-starts.ensures.size, c.requires.several, c.requires.room)))))))))
 
 pub par::emit_several-returns-in_err-emit_slaves-clause-refused : goal.par::emit_several-returns-in_err-emit_slaves-clause-refused
 par::emit_several-returns-in_err-emit_slaves-clause-refused t c =
@@ -441,7 +443,7 @@ par::emit_slave-returns-clause-code t c =
 
 pub par::emit_slaves-loop-index-init : goal.par::emit_slaves-loop-index-init
 par::emit_slaves-loop-index-init t c =
-    slaves_begin c.args.plan.now (map sides_of c.args.each.now) (branches_of c.args.branches.now) (indices_of c.args.starts.now) c.args.e.now c.args.left.now.items c.requires.built c.requires.shallow c.requires.few c.requires.landable
+    slaves_begin c.args.plan.now (map sides_of c.args.each.now) (branches_of c.args.branches.now) (indices_of c.args.starts.now) c.args.e.now c.args.left.now.items c.requires.built c.requires.shallow c.requires.narrow c.requires.landable
 
 pub par::emit_slaves-bounds-branches-index : goal.par::emit_slaves-bounds-branches-index
 par::emit_slaves-bounds-branches-index t c = c.loop-index-test.true
@@ -463,7 +465,7 @@ par::emit_slaves-emit_slave-requires t c =
     let h = next_slave c.args.plan.now c.args.each.now bs hs i c.args.e.now c.loop-index.e c.args.left.now.items c.loop-index.left.items c.requires.as_many c.requires.as_many_starts c.loop-index.invariant c.loop-index-test.true c.index-each-index.result own c.index-each-index.is c.as_slice-own.ensures x body c.index-branches-index.is c.as_slice.ensures (record { index = 0 }) in
     let w = branch_lighter bs i x c.index-branches-index.is c.loop-index-test.true in
     let same = ap weights (ap statements_of c.as_slice.ensures) in
-    (omega (arith, w, same, c.decreases), (h.built.0, (h.shallow.0, (h.few.0, (c.requires.stack, (start_open c.args.plan.now (map sides_of c.args.each.now) (map sides_of (drop (i + 1) c.args.each.now)) (sides_of own) (branches_of bs) (branches_of (drop (i + 1) bs)) (statements_of body) x.pos (indices_of hs) (indices_of (drop (i + 1) hs)) (get_or hs i (record { index = 0 })).index c.args.e.now c.loop-index.e c.args.left.now.items c.loop-index.left.items h, omega (arith, h.room, c.requires.room)))))))
+    (omega (arith, w, same, c.decreases), (h.built.0, (h.shallow.0, (h.narrow.0, (c.requires.stack, (slave_open c.args.plan.now (map sides_of c.args.each.now) (map sides_of (drop (i + 1) c.args.each.now)) (sides_of own) (branches_of bs) (branches_of (drop (i + 1) bs)) (statements_of body) x.pos (indices_of hs) (indices_of (drop (i + 1) hs)) (get_or hs i (record { index = 0 })).index c.args.e.now c.loop-index.e c.args.left.now.items c.loop-index.left.items h, omega (arith, h.room, c.requires.room)))))))
 
 pub par::emit_slaves-loop-index-preserved : goal.par::emit_slaves-loop-index-preserved
 par::emit_slaves-loop-index-preserved t c =
@@ -527,9 +529,6 @@ walk::emit_loop-returns-in_err-emit_back-clause-refused t c = on_err _ _ (extend
 pub walk::emit_block-returns-in_err-emit_all-clause-refused : goal.walk::emit_block-returns-in_err-emit_all-clause-refused
 walk::emit_block-returns-in_err-emit_all-clause-refused t c = on_err _ _ c.in_err-emit_all.ensures.refused
 
-pub walk::emit_block-returns-in_err-inner-clause-refused : goal.walk::emit_block-returns-in_err-inner-clause-refused
-walk::emit_block-returns-in_err-inner-clause-refused t c = on_err _ _ (extends_by _ _ _ c.in_ok-emit_all.ensures.code.lines)
-
 pub walk::emit_one-returns-in-Zero-clause-refused : goal.walk::emit_one-returns-in-Zero-clause-refused
 walk::emit_one-returns-in-Zero-clause-refused t c = c.emit_zero.ensures.refused
 
@@ -552,7 +551,7 @@ pub walk::emit_one-returns-in-Block-clause-refused : goal.walk::emit_one-returns
 walk::emit_one-returns-in-Block-clause-refused t c = c.emit_block.ensures.refused
 
 pub walk::emit_one-returns-in-Exit-clause-refused : goal.walk::emit_one-returns-in-Exit-clause-refused
-walk::emit_one-returns-in-Exit-clause-refused t c = c.emit_exit.ensures.refused
+walk::emit_one-returns-in-Exit-clause-refused t c = c.emit_leaving.ensures.refused
 
 pub walk::emit_one-returns-in-Par-clause-refused : goal.walk::emit_one-returns-in-Par-clause-refused
 walk::emit_one-returns-in-Par-clause-refused t c = c.emit_par.ensures.refused
@@ -613,14 +612,11 @@ walk::emit_one-emit_input-requires-clause-shallow t c = subst IsShallow (ap stat
 pub walk::emit_one-emit_input-requires-clause-room : goal.walk::emit_one-emit_input-requires-clause-room
 walk::emit_one-emit_input-requires-clause-room t c = subst (λ s. length c.args.e.now + most c.args.plan.now.vars s < 2 ^ 32) (ap statement_of c.in-In.is ∙ statement-In c.in-In.input) c.requires.room
 
-pub walk::emit_one-emit_exit-requires : goal.walk::emit_one-emit_exit-requires
-walk::emit_one-emit_exit-requires t c = subst (λ s. length c.args.e.now + most c.args.plan.now.vars s < 2 ^ 32) (ap statement_of c.in-Exit.is ∙ statement-Exit c.in-Exit.block) c.requires.room
+pub walk::emit_one-emit_leaving-requires : goal.walk::emit_one-emit_leaving-requires
+walk::emit_one-emit_leaving-requires t c = subst (λ s. length c.args.e.now + most c.args.plan.now.vars s < 2 ^ 32) (ap statement_of c.in-Exit.is ∙ statement-Exit c.in-Exit.block) c.requires.room
 
 pub walk::emit_one-unreachable-requires : goal.walk::emit_one-unreachable-requires
-walk::emit_one-unreachable-requires t c = subst IsBuilt (ap statement_of c.in-Select.is ∙ statement-Select c.in-Select.field-0 ∙ select-KSelect c.in-Select.field-0) c.requires.built
-
-pub walk::emit_one-unreachable-requires-in-Tran : goal.walk::emit_one-unreachable-requires-in-Tran
-walk::emit_one-unreachable-requires-in-Tran t c = subst IsBuilt (ap statement_of c.in-Tran.is ∙ statement-Tran c.in-Tran.chan c.in-Tran.master c.in-Tran.body c.in-Tran.open_at c.in-Tran.close_at) c.requires.built
+walk::emit_one-unreachable-requires t c = subst IsBuilt (ap statement_of c.in-Tran.is ∙ statement-Tran c.in-Tran.chan c.in-Tran.master c.in-Tran.body c.in-Tran.open_at c.in-Tran.close_at) c.requires.built
 
 -- the code, and how much it is
 
@@ -649,7 +645,7 @@ walk::emit_one-returns-in-Block-clause-code t c =
 pub walk::emit_one-returns-in-Exit-clause-code : goal.walk::emit_one-returns-in-Exit-clause-code
 walk::emit_one-returns-in-Exit-clause-code t c =
     let is = ap statement_of c.in-Exit.is ∙ statement-Exit c.in-Exit.block in
-    statement_emits c.emit_exit.result c.args.plan.now (sides_of c.args.sides.now) _ _ _ _ _ _ _ is (λ last pc cells h. h) c.emit_exit.ensures.code
+    statement_emits c.emit_leaving.result c.args.plan.now (sides_of c.args.sides.now) _ _ _ _ _ _ _ is (λ last pc cells h. h) c.emit_leaving.ensures.code
 
 pub walk::emit_one-returns-in-Par-clause-code : goal.walk::emit_one-returns-in-Par-clause-code
 walk::emit_one-returns-in-Par-clause-code t c =
@@ -678,7 +674,7 @@ walk::emit_one-returns-in-Block-clause-size t c =
 pub walk::emit_one-returns-in-Exit-clause-size : goal.walk::emit_one-returns-in-Exit-clause-size
 walk::emit_one-returns-in-Exit-clause-size t c =
     let is = ap statement_of c.in-Exit.is ∙ statement-Exit c.in-Exit.block in
-    statement_within c.emit_exit.result c.args.plan.now.vars _ _ _ _ is c.emit_exit.ensures.size
+    statement_within c.emit_leaving.result c.args.plan.now.vars _ _ _ _ is c.emit_leaving.ensures.size
 
 pub walk::emit_one-returns-in-Par-clause-size : goal.walk::emit_one-returns-in-Par-clause-size
 walk::emit_one-returns-in-Par-clause-size t c =
@@ -703,10 +699,10 @@ walk::emit_one-returns-in-Loop-clause-size t c =
     statement_within c.emit_loop.result c.args.plan.now.vars _ _ _ _ is (ok_summed _ _ _ _ _ _ c.emit_loop.ensures.size)
 
 pub walk::emit_if-emit_one_side-requires : goal.walk::emit_if-emit_one_side-requires
-walk::emit_if-emit_one_side-requires t c = (omega (arith, c.decreases), (c.requires.built, (c.requires.shallow, (c.requires.shallow_first, (c.requires.few_first, (c.requires.stack, omega (arith, c.requires.room)))))))
+walk::emit_if-emit_one_side-requires t c = (omega (arith, c.decreases), (c.requires.built, (c.requires.shallow, (c.requires.shallow_first, (c.requires.narrow_first, (c.requires.stack, omega (arith, c.requires.room)))))))
 
 pub walk::emit_if-emit_two_sides-requires : goal.walk::emit_if-emit_two_sides-requires
-walk::emit_if-emit_two_sides-requires t c = (omega (arith, c.decreases), (c.requires.built, (c.requires.built_second, (c.requires.shallow, (c.requires.shallow_first, (c.requires.shallow_second, (c.requires.few_first, (c.requires.few_second, (c.requires.stack, c.requires.room)))))))))
+walk::emit_if-emit_two_sides-requires t c = (omega (arith, c.decreases), (c.requires.built, (c.requires.built_second, (c.requires.shallow, (c.requires.shallow_first, (c.requires.shallow_second, (c.requires.narrow_first, (c.requires.narrow_second, (c.requires.stack, c.requires.room)))))))))
 
 pub walk::emit_if-returns-then-second-eq0-clause-code : goal.walk::emit_if-returns-then-second-eq0-clause-code
 walk::emit_if-returns-then-second-eq0-clause-code t c =
@@ -777,7 +773,7 @@ pub walk::emit_all-returns-clause-size : goal.walk::emit_all-returns-clause-size
 walk::emit_all-returns-clause-size t c = let room = c.loop-statement.invariant.room in omega (arith, room)
 
 pub walk::emit_block-emit_all-requires : goal.walk::emit_block-emit_all-requires
-walk::emit_block-emit_all-requires t c = (omega (arith, c.decreases), (c.requires.built, (c.requires.shallow, (c.requires.few, (c.requires.stack, c.requires.room)))))
+walk::emit_block-emit_all-requires t c = (omega (arith, c.decreases), (c.requires.built, (c.requires.shallow, (c.requires.narrow, (c.requires.stack, c.requires.room)))))
 
 pub par::emit_several-open_par-requires-clause-several : goal.par::emit_several-open_par-requires-clause-several
 par::emit_several-open_par-requires-clause-several t c = omega (arith, c.requires.several)
@@ -800,7 +796,7 @@ par::emit_slave-land-requires t c = c.requires.open_start
 pub par::emit_slave-emit_all-requires : goal.par::emit_slave-emit_all-requires
 par::emit_slave-emit_all-requires t c =
     let same = ap length c.land.ensures ∙ landed_size c.args.e.now c.args.start.index (length c.args.e.now) in
-    (omega (arith, c.decreases), (c.requires.built, (c.requires.shallow, (c.requires.few, (c.requires.stack, omega (arith, same, c.requires.room))))))
+    (omega (arith, c.decreases), (c.requires.built, (c.requires.shallow, (c.requires.narrow, (c.requires.stack, omega (arith, same, c.requires.room))))))
 
 pub par::emit_slave-close_slave-requires : goal.par::emit_slave-close_slave-requires
 par::emit_slave-close_slave-requires t c =
@@ -811,3 +807,319 @@ pub par::emit_slave-returns-clause-size : goal.par::emit_slave-returns-clause-si
 par::emit_slave-returns-clause-size t c =
     let same = ap length c.land.ensures ∙ landed_size c.args.e.now c.args.start.index (length c.args.e.now) in
     ok_one_more c.close_slave.result c.emit_all.new.e c.close_slave.new.e _ (length c.args.e.now + most_of_all c.args.plan.now.vars (statements_of c.args.body.now)) (omega (arith, same, c.in_ok-emit_all.ensures.size)) c.close_slave.ensures.code
+
+-- a select
+
+pub walk::emit_one-emit_select-requires : goal.walk::emit_one-emit_select-requires
+walk::emit_one-emit_select-requires t c =
+    let is : statement_of c.args.statement.now ≡ select_of c.in-Select.select = ap statement_of c.in-Select.is ∙ statement-Select c.in-Select.select in
+    (omega (arith, ap weight is, c.decreases), (subst IsBuilt is c.requires.built, (subst IsShallow is c.requires.shallow, (subst IsNarrow is c.requires.narrow, (c.requires.stack, subst (λ s. length c.args.e.now + most c.args.plan.now.vars s < 2 ^ 32) is c.requires.room)))))
+
+pub walk::emit_one-returns-in-Select-clause-code : goal.walk::emit_one-returns-in-Select-clause-code
+walk::emit_one-returns-in-Select-clause-code t c =
+    let is : statement_of c.args.statement.now ≡ select_of c.in-Select.select = ap statement_of c.in-Select.is ∙ statement-Select c.in-Select.select in
+    statement_emits c.emit_select.result c.args.plan.now (sides_of c.args.sides.now) _ _ _ _ _ _ _ is (λ last pc cells h. h) c.emit_select.ensures.code
+
+pub walk::emit_one-returns-in-Select-clause-size : goal.walk::emit_one-returns-in-Select-clause-size
+walk::emit_one-returns-in-Select-clause-size t c =
+    let is : statement_of c.args.statement.now ≡ select_of c.in-Select.select = ap statement_of c.in-Select.is ∙ statement-Select c.in-Select.select in
+    statement_within c.emit_select.result c.args.plan.now.vars _ _ _ _ is c.emit_select.ensures.size
+
+pub walk::emit_one-returns-in-Select-clause-refused : goal.walk::emit_one-returns-in-Select-clause-refused
+walk::emit_one-returns-in-Select-clause-refused t c = c.emit_select.ensures.refused
+
+-- a case
+
+pub select::emit_case-land-requires : goal.select::emit_case-land-requires
+select::emit_case-land-requires t c = c.requires.open_start
+
+pub select::emit_case-open_case-requires-clause-room : goal.select::emit_case-open_case-requires-clause-room
+select::emit_case-open_case-requires-clause-room t c =
+    let same = ap length c.land.ensures ∙ landed_size c.args.e.now c.args.start.index (length c.args.e.now) in
+    omega (arith, same, c.requires.room)
+
+pub select::emit_case-open_case-requires-clause-shallow : goal.select::emit_case-open_case-requires-clause-shallow
+select::emit_case-open_case-requires-clause-shallow t c = c.requires.shallow_entry
+
+pub select::emit_case-emit_all-requires : goal.select::emit_case-emit_all-requires
+select::emit_case-emit_all-requires t c =
+    let same = ap length c.land.ensures ∙ landed_size c.args.e.now c.args.start.index (length c.args.e.now) in
+    (omega (arith, c.decreases), (c.requires.built, (c.requires.shallow, (c.requires.narrow, (c.requires.stack, omega (arith, same, c.in_ok-open_case.ensures.size, c.requires.room))))))
+
+pub select::emit_case-emit_jump_unless-requires : goal.select::emit_case-emit_jump_unless-requires
+select::emit_case-emit_jump_unless-requires t c =
+    let same = ap length c.land.ensures ∙ landed_size c.args.e.now c.args.start.index (length c.args.e.now) in
+    omega (arith, same, c.in_ok-emit_all.ensures.size, c.in_ok-open_case.ensures.size, c.requires.room)
+
+pub select::emit_case-returns-clause-code : goal.select::emit_case-returns-clause-code
+select::emit_case-returns-clause-code t c =
+    case_code c.emit_jump_unless.result c.args.plan.now (input_of c.args.head.now) c.end_of_case-end.result _ (AllEmit c.args.plan.now (sides_of c.args.sides.now) (statements_of c.args.body.now)) c.args.ends_select
+    c.land.new.self (landed c.args.e.now c.args.start.index (length c.args.e.now)) c.open_case.new.e c.emit_all.new.e c.emit_jump_unless.new.e c.args.left.now.items c.emit_all.new.left.items c.emit_jump_unless.new.left.items
+    c.end_of_case-end.ensures c.land.ensures c.in_ok-open_case.ensures.enters c.in_ok-open_case.ensures.aimed c.in_ok-emit_all.ensures.code c.emit_jump_unless.ensures.code
+
+pub select::emit_case-returns-clause-size : goal.select::emit_case-returns-clause-size
+select::emit_case-returns-clause-size t c =
+    let same = ap length c.land.ensures ∙ landed_size c.args.e.now c.args.start.index (length c.args.e.now) in
+    ok_within c.emit_jump_unless.result (length c.emit_jump_unless.new.e) (length c.emit_all.new.e + 1) _ (omega (arith, same, c.in_ok-emit_all.ensures.size, c.in_ok-open_case.ensures.size)) c.emit_jump_unless.ensures.size
+
+pub select::emit_case-returns-clause-refused : goal.select::emit_case-returns-clause-refused
+select::emit_case-returns-clause-refused t c =
+    on_err_on _ _ _ _ (subst (λ ls. Extends ls c.emit_all.new.e) c.land.ensures (extends_on _ _ _ (extends_by _ _ _ c.in_ok-open_case.ensures.enters.is) (extends_by _ _ _ c.in_ok-emit_all.ensures.code.lines))) c.emit_jump_unless.ensures.refused
+
+pub select::emit_case-returns-in_err-open_case-clause-refused : goal.select::emit_case-returns-in_err-open_case-clause-refused
+select::emit_case-returns-in_err-open_case-clause-refused t c = on_err _ _ (subst (λ ls. Extends ls c.open_case.new.e) c.land.ensures c.in_err-open_case.ensures.refused)
+
+pub select::emit_case-returns-in_err-emit_all-clause-refused : goal.select::emit_case-returns-in_err-emit_all-clause-refused
+select::emit_case-returns-in_err-emit_all-clause-refused t c =
+    on_err _ _ (subst (λ ls. Extends ls c.emit_all.new.e) c.land.ensures (extends_on _ _ _ (extends_by _ _ _ c.in_ok-open_case.ensures.enters.is) c.in_err-emit_all.ensures.refused))
+
+-- the default
+
+pub select::emit_default-land_start-requires : goal.select::emit_default-land_start-requires
+select::emit_default-land_start-requires t c = c.requires.landable
+
+pub select::emit_default-returns-in-None-clause-code : goal.select::emit_default-returns-in-None-clause-code
+select::emit_default-returns-in-None-clause-code t c =
+    no_default_code c.args.plan.now (sides_of c.args.sides.now) c.args.otherwise.now (listed (option_map index_of c.args.start)) c.args.e.now c.args.left.now.items c.in-None.is
+
+pub select::emit_default-returns-in-None-clause-size : goal.select::emit_default-returns-in-None-clause-size
+select::emit_default-returns-in-None-clause-size t c = no_more _ _
+
+pub select::emit_default-emit_all-requires : goal.select::emit_default-emit_all-requires
+select::emit_default-emit_all-requires t c =
+    let is = default_is c.args.otherwise.now c.as_slice.result.now c.in-Some.body c.in-Some.is c.as_slice.ensures in
+    let same = ap length c.land_start.ensures ∙ all_size c.args.e.now (listed (option_map index_of c.args.start)) (length c.args.e.now ∷ []) in
+    let more = ap (most_of_default c.args.plan.now.vars) is in
+    (omega (arith, ap default_weight is, c.decreases), (subst DefaultIsBuilt is c.requires.built, (subst DefaultIsShallow is c.requires.shallow, (subst DefaultIsNarrow is c.requires.narrow, (c.requires.stack, omega (arith, same, more, c.requires.room))))))
+
+pub select::emit_default-returns-in-Some-clause-code : goal.select::emit_default-returns-in-Some-clause-code
+select::emit_default-returns-in-Some-clause-code t c =
+    let is = default_is c.args.otherwise.now c.as_slice.result.now c.in-Some.body c.in-Some.is c.as_slice.ensures in
+    default_code c.emit_all.result (listed (option_map index_of c.args.start)) c.args.e.now c.land_start.new.e c.emit_all.new.e c.land_start.ensures c.args.plan.now (sides_of c.args.sides.now) (default_of c.args.otherwise.now) (statements_of c.as_slice.result.now) c.args.left.now.items c.emit_all.new.left.items is c.emit_all.ensures.code
+
+pub select::emit_default-returns-in-Some-clause-size : goal.select::emit_default-returns-in-Some-clause-size
+select::emit_default-returns-in-Some-clause-size t c =
+    let is = default_is c.args.otherwise.now c.as_slice.result.now c.in-Some.body c.in-Some.is c.as_slice.ensures in
+    let same = ap length c.land_start.ensures ∙ all_size c.args.e.now (listed (option_map index_of c.args.start)) (length c.args.e.now ∷ []) in
+    let more = ap (most_of_default c.args.plan.now.vars) is in
+    ok_within c.emit_all.result (length c.emit_all.new.e) _ _ (omega (arith, same, more)) c.emit_all.ensures.size
+
+pub select::emit_default-returns-in-Some-clause-refused : goal.select::emit_default-returns-in-Some-clause-refused
+select::emit_default-returns-in-Some-clause-refused t c =
+    default_refused c.emit_all.result (listed (option_map index_of c.args.start)) c.args.e.now c.land_start.new.e c.emit_all.new.e c.land_start.ensures c.emit_all.ensures.refused
+
+-- the cases
+
+pub select::emit_cases-loop-index-init : goal.select::emit_cases-loop-index-init
+select::emit_cases-loop-index-init t c =
+    cases_begin c.args.plan.now (sides_of c.args.sides.now) (default_of c.args.otherwise.now) (cases_of c.args.cases.now) (indices_of c.args.starts.now ++ listed (option_map index_of c.args.default_start)) c.args.e.now c.args.left.now.items c.requires.built c.requires.shallow c.requires.narrow c.requires.landable
+
+pub select::emit_cases-bounds-cases-index : goal.select::emit_cases-bounds-cases-index
+select::emit_cases-bounds-cases-index t c = c.loop-index-test.true
+
+pub select::emit_cases-bounds-starts-index : goal.select::emit_cases-bounds-starts-index
+select::emit_cases-bounds-starts-index t c = omega (arith, c.loop-index-test.true, c.requires.as_many)
+
+pub select::emit_cases-emit_case-requires : goal.select::emit_cases-emit_case-requires
+select::emit_cases-emit_case-requires t c =
+    let cs = c.args.cases.now in
+    let hs = c.args.starts.now in
+    let more = listed (option_map index_of c.args.default_start) in
+    let i = c.loop-index.index in
+    let x = c.index-cases-index.result in
+    let body = c.as_slice.result.now in
+    let h = next_case c.args.plan.now (sides_of c.args.sides.now) (default_of c.args.otherwise.now) cs hs more (indices_of hs ++ more) i c.args.e.now c.loop-index.e c.args.left.now.items c.loop-index.left.items c.requires.as_many c.loop-index.invariant c.loop-index-test.true x body c.index-cases-index.is c.as_slice.ensures (record { index = 0 }) in
+    let w = case_lighter cs i x (default_weight (default_of c.args.otherwise.now)) c.index-cases-index.is c.loop-index-test.true in
+    let same = ap weights (ap statements_of c.as_slice.ensures) in
+    let is_open = case_open c.args.plan.now (sides_of c.args.sides.now) (default_of c.args.otherwise.now) (cases_of cs) (cases_of (drop (i + 1) cs)) (option_map expression_of x.guard) (input_of x.head) (statements_of body) (indices_of hs ++ more) (indices_of (drop (i + 1) hs) ++ more) (get_or hs i (record { index = 0 })).index c.args.e.now c.loop-index.e c.args.left.now.items c.loop-index.left.items h in
+    (omega (arith, w, same, c.decreases), (h.built.0, (h.shallow.0, (h.shallow.1, (h.narrow.0, (c.requires.stack, (is_open, omega (arith, h.room, c.requires.room))))))))
+
+pub select::emit_cases-loop-index-preserved : goal.select::emit_cases-loop-index-preserved
+select::emit_cases-loop-index-preserved t c =
+    let plan = c.args.plan.now in
+    let sides = sides_of c.args.sides.now in
+    let d = default_of c.args.otherwise.now in
+    let cs = c.args.cases.now in
+    let hs = c.args.starts.now in
+    let more = listed (option_map index_of c.args.default_start) in
+    let i = c.loop-index.index in
+    let x = c.index-cases-index.result in
+    let body = c.as_slice.result.now in
+    let h = next_case plan sides d cs hs more (indices_of hs ++ more) i c.args.e.now c.loop-index.e c.args.left.now.items c.loop-index.left.items c.requires.as_many c.loop-index.invariant c.loop-index-test.true x body c.index-cases-index.is c.as_slice.ensures (record { index = 0 }) in
+    let last = c.is_last_code-ends_select.ensures ∙ ap (λ l. is_last (cases_of l) d) (rest_is cs (i + 1) (omega (arith, c.loop-index-test.true))) in
+    cases_go_on plan sides d (cases_of cs) (cases_of (drop (i + 1) cs)) (option_map expression_of x.guard) (input_of x.head) (statements_of body) (indices_of hs ++ more) (indices_of (drop (i + 1) hs) ++ more) (get_or hs i (record { index = 0 })).index c.args.e.now c.loop-index.e c.args.left.now.items c.loop-index.left.items h c.emit_case.new.e c.emit_case.new.left.items
+    (subst (λ b. Emitted (CaseCode (EntersCase plan (input_of x.head) (case_end plan.channels sides x.head.res) true) (AllEmit plan sides (statements_of body)) b) (landed c.loop-index.e (get_or hs i (record { index = 0 })).index (length c.loop-index.e)) c.emit_case.new.e c.loop-index.left.items c.emit_case.new.left.items) last c.in_ok-emit_case.ensures.code)
+    c.in_ok-emit_case.ensures.size
+
+pub select::emit_cases-returns-in_err-emit_case-clause-refused : goal.select::emit_cases-returns-in_err-emit_case-clause-refused
+select::emit_cases-returns-in_err-emit_case-clause-refused t c =
+    let cs = c.args.cases.now in
+    let hs = c.args.starts.now in
+    let more = listed (option_map index_of c.args.default_start) in
+    let i = c.loop-index.index in
+    let x = c.index-cases-index.result in
+    let body = c.as_slice.result.now in
+    let h = next_case c.args.plan.now (sides_of c.args.sides.now) (default_of c.args.otherwise.now) cs hs more (indices_of hs ++ more) i c.args.e.now c.loop-index.e c.args.left.now.items c.loop-index.left.items c.requires.as_many c.loop-index.invariant c.loop-index-test.true x body c.index-cases-index.is c.as_slice.ensures (record { index = 0 }) in
+    on_err c.from_residual.result (Lands (indices_of hs ++ more) c.args.e.now c.emit_case.new.e)
+    (case_refused c.args.plan.now (sides_of c.args.sides.now) (default_of c.args.otherwise.now) (cases_of cs) (cases_of (drop (i + 1) cs)) (option_map expression_of x.guard) (input_of x.head) (statements_of body) (indices_of hs ++ more) (indices_of (drop (i + 1) hs) ++ more) (get_or hs i (record { index = 0 })).index c.args.e.now c.loop-index.e c.args.left.now.items c.loop-index.left.items h c.emit_case.new.e c.in_err-emit_case.ensures.refused)
+
+pub select::emit_cases-emit_default-requires : goal.select::emit_cases-emit_default-requires
+select::emit_cases-emit_default-requires t c =
+    let more = listed (option_map index_of c.args.default_start) in
+    let all = cases_of c.args.cases.now in
+    let h = cases_over c.args.plan.now (sides_of c.args.sides.now) (default_of c.args.otherwise.now) c.args.cases.now c.args.starts.now more (indices_of c.args.starts.now ++ more) c.loop-index.index c.args.e.now c.loop-index.e c.args.left.now.items c.loop-index.left.items c.requires.as_many c.loop-index.invariant c.loop-index-test.false in
+    let w = some_weight_of_cases all (default_weight (default_of c.args.otherwise.now)) in
+    (omega (arith, w, c.decreases), (c.requires.built_default, (c.requires.shallow_default, (c.requires.narrow_default, (c.requires.stack, (default_landable c.args.plan.now (sides_of c.args.sides.now) (default_of c.args.otherwise.now) all (indices_of c.args.starts.now ++ more) more c.args.e.now c.loop-index.e c.args.left.now.items c.loop-index.left.items h, omega (arith, h.room, c.requires.room)))))))
+
+pub select::emit_cases-returns-clause-code : goal.select::emit_cases-returns-clause-code
+select::emit_cases-returns-clause-code t c =
+    let more = listed (option_map index_of c.args.default_start) in
+    let h = cases_over c.args.plan.now (sides_of c.args.sides.now) (default_of c.args.otherwise.now) c.args.cases.now c.args.starts.now more (indices_of c.args.starts.now ++ more) c.loop-index.index c.args.e.now c.loop-index.e c.args.left.now.items c.loop-index.left.items c.requires.as_many c.loop-index.invariant c.loop-index-test.false in
+    cases_end c.emit_default.result c.args.plan.now (sides_of c.args.sides.now) (default_of c.args.otherwise.now) (cases_of c.args.cases.now) (indices_of c.args.starts.now ++ more) more c.args.e.now c.loop-index.e c.emit_default.new.e c.args.left.now.items c.loop-index.left.items c.emit_default.new.left.items h c.emit_default.ensures.code
+
+pub select::emit_cases-returns-clause-size : goal.select::emit_cases-returns-clause-size
+select::emit_cases-returns-clause-size t c =
+    let room = c.loop-index.invariant.room in
+    ok_within c.emit_default.result (length c.emit_default.new.e) _ _ (omega (arith, room)) c.emit_default.ensures.size
+
+pub select::emit_cases-returns-clause-refused : goal.select::emit_cases-returns-clause-refused
+select::emit_cases-returns-clause-refused t c =
+    let more = listed (option_map index_of c.args.default_start) in
+    let h = cases_over c.args.plan.now (sides_of c.args.sides.now) (default_of c.args.otherwise.now) c.args.cases.now c.args.starts.now more (indices_of c.args.starts.now ++ more) c.loop-index.index c.args.e.now c.loop-index.e c.args.left.now.items c.loop-index.left.items c.requires.as_many c.loop-index.invariant c.loop-index-test.false in
+    cases_refused c.emit_default.result c.args.plan.now (sides_of c.args.sides.now) (default_of c.args.otherwise.now) (cases_of c.args.cases.now) (indices_of c.args.starts.now ++ more) more c.args.e.now c.loop-index.e c.emit_default.new.e c.args.left.now.items c.loop-index.left.items c.emit_default.new.left.items h c.emit_default.ensures.refused
+
+-- all of a select
+
+pub select::emit_select-open_select-requires-clause-room : goal.select::emit_select-open_select-requires-clause-room
+select::emit_select-open_select-requires-clause-room t c =
+    let is = select-KSelect c.args.select.now in
+    let parts = ap (λ x. cases_parts (cases_in x)) is in
+    let size = ap (most c.args.plan.now.vars) is in
+    omega (arith, parts, size, c.requires.room)
+
+pub select::emit_select-open_select-requires-clause-ends : goal.select::emit_select-open_select-requires-clause-ends
+select::emit_select-open_select-requires-clause-ends t c =
+    ends_as_many c.args.plan.now.channels (sides_of c.args.sides.now) (select_of c.args.select.now) (cases_of c.as_slice-cases.result.now) (default_of (out-KSelect c.args.select.now).otherwise) (out-KSelect c.args.select.now).pos c.as_slice.result.now
+    (select_is c.args.select.now c.as_slice-cases.result.now c.as_slice-cases.ensures) (c.as_slice.ensures ∙ c.in_ok-ends.ensures)
+
+pub select::emit_select-emit_cases-requires : goal.select::emit_select-emit_cases-requires
+select::emit_select-emit_cases-requires t c =
+    let plan = c.args.plan.now in
+    let sides = sides_of c.args.sides.now in
+    let s = c.args.select.now in
+    let cs = cases_of c.as_slice-cases.result.now in
+    let d = default_of (out-KSelect s).otherwise in
+    let pos = (out-KSelect s).pos in
+    let is = select_is s c.as_slice-cases.result.now c.as_slice-cases.ensures in
+    let ends_are = c.as_slice.ensures ∙ c.in_ok-ends.ensures in
+    let starts = indices_of c.as_slice-2.result.now in
+    let hole = option_map index_of c.in_ok-starts.starts.otherwise in
+    let o = c.in_ok-starts.ensures in
+    let said = opened_by plan c.as_slice.result.now (select_of s) c.args.e.now c.open_select.new.e starts hole o.code (ap indices_of c.as_slice-2.ensures ∙ o.holes) o.otherwise o.open o.aimed o.opens in
+    let built = subst IsBuilt is c.requires.built in
+    let shallow = subst IsShallow is c.requires.shallow in
+    let narrow = subst IsNarrow is c.requires.narrow in
+    let parts = ap (λ x. cases_parts (cases_in x)) is in
+    let size = ap (most plan.vars) is in
+    let count = sym (indices_length c.as_slice-2.result.now) ∙ whole_count plan sides cs d pos (select_of s) is c.as_slice.result.now ends_are c.args.e.now c.open_select.new.e starts hole said ∙ cases_count c.as_slice-cases.result.now in
+    let landable = whole_landable plan sides cs d pos (select_of s) is c.as_slice.result.now ends_are c.args.e.now c.open_select.new.e starts hole said in
+    (omega (arith, ap weight is, c.decreases), (built.0, (built.1, (shallow.1, (shallow.2, (narrow.1, (narrow.2, (c.requires.stack, (count, (landable, omega (arith, o.size, parts, size, c.requires.room)))))))))))
+
+pub select::emit_select-returns-in_err-emit_cases-clause-refused : goal.select::emit_select-returns-in_err-emit_cases-clause-refused
+select::emit_select-returns-in_err-emit_cases-clause-refused t c =
+    let plan = c.args.plan.now in
+    let sides = sides_of c.args.sides.now in
+    let s = c.args.select.now in
+    let cs = cases_of c.as_slice-cases.result.now in
+    let d = default_of (out-KSelect s).otherwise in
+    let pos = (out-KSelect s).pos in
+    let is = select_is s c.as_slice-cases.result.now c.as_slice-cases.ensures in
+    let ends_are = c.as_slice.ensures ∙ c.in_ok-ends.ensures in
+    let starts = indices_of c.as_slice-2.result.now in
+    let hole = option_map index_of c.in_ok-starts.starts.otherwise in
+    let o = c.in_ok-starts.ensures in
+    let said = opened_by plan c.as_slice.result.now (select_of s) c.args.e.now c.open_select.new.e starts hole o.code (ap indices_of c.as_slice-2.ensures ∙ o.holes) o.otherwise o.open o.aimed o.opens in
+    on_err _ (Extends c.args.e.now c.emit_cases.new.e) (whole_refused plan sides cs d pos (select_of s) is c.as_slice.result.now ends_are c.args.e.now c.open_select.new.e starts hole said c.emit_cases.new.e c.in_err-emit_cases.ensures.refused)
+
+pub select::emit_select-end_here-requires-clause-within : goal.select::emit_select-end_here-requires-clause-within
+select::emit_select-end_here-requires-clause-within t c =
+    let plan = c.args.plan.now in
+    let sides = sides_of c.args.sides.now in
+    let s = c.args.select.now in
+    let cs = cases_of c.as_slice-cases.result.now in
+    let d = default_of (out-KSelect s).otherwise in
+    let pos = (out-KSelect s).pos in
+    let is = select_is s c.as_slice-cases.result.now c.as_slice-cases.ensures in
+    let ends_are = c.as_slice.ensures ∙ c.in_ok-ends.ensures in
+    let starts = indices_of c.as_slice-2.result.now in
+    let hole = option_map index_of c.in_ok-starts.starts.otherwise in
+    let o = c.in_ok-starts.ensures in
+    let said = opened_by plan c.as_slice.result.now (select_of s) c.args.e.now c.open_select.new.e starts hole o.code (ap indices_of c.as_slice-2.ensures ∙ o.holes) o.otherwise o.open o.aimed o.opens in
+    whole_within plan sides cs d pos (select_of s) is c.as_slice.result.now ends_are c.args.e.now c.open_select.new.e starts hole said c.emit_cases.new.e c.args.left.now.items c.emit_cases.new.left.items c.in_ok-emit_cases.ensures.code c.len-outside.result (omega (arith, c.len-outside.ensures, c.args.left.now.ok.0))
+
+pub select::emit_select-end_here-requires-clause-closable : goal.select::emit_select-end_here-requires-clause-closable
+select::emit_select-end_here-requires-clause-closable t c =
+    let plan = c.args.plan.now in
+    let sides = sides_of c.args.sides.now in
+    let s = c.args.select.now in
+    let cs = cases_of c.as_slice-cases.result.now in
+    let d = default_of (out-KSelect s).otherwise in
+    let pos = (out-KSelect s).pos in
+    let is = select_is s c.as_slice-cases.result.now c.as_slice-cases.ensures in
+    let ends_are = c.as_slice.ensures ∙ c.in_ok-ends.ensures in
+    let starts = indices_of c.as_slice-2.result.now in
+    let hole = option_map index_of c.in_ok-starts.starts.otherwise in
+    let o = c.in_ok-starts.ensures in
+    let said = opened_by plan c.as_slice.result.now (select_of s) c.args.e.now c.open_select.new.e starts hole o.code (ap indices_of c.as_slice-2.ensures ∙ o.holes) o.otherwise o.open o.aimed o.opens in
+    whole_closable plan sides cs d pos (select_of s) is c.as_slice.result.now ends_are c.args.e.now c.open_select.new.e starts hole said c.emit_cases.new.e c.args.left.now.items c.emit_cases.new.left.items c.in_ok-emit_cases.ensures.code c.len-outside.result (omega (arith, c.len-outside.ensures, c.args.left.now.ok.0))
+
+pub select::emit_select-returns-clause-code : goal.select::emit_select-returns-clause-code
+select::emit_select-returns-clause-code t c =
+    let plan = c.args.plan.now in
+    let sides = sides_of c.args.sides.now in
+    let s = c.args.select.now in
+    let cs = cases_of c.as_slice-cases.result.now in
+    let d = default_of (out-KSelect s).otherwise in
+    let pos = (out-KSelect s).pos in
+    let is = select_is s c.as_slice-cases.result.now c.as_slice-cases.ensures in
+    let ends_are = c.as_slice.ensures ∙ c.in_ok-ends.ensures in
+    let starts = indices_of c.as_slice-2.result.now in
+    let hole = option_map index_of c.in_ok-starts.starts.otherwise in
+    let o = c.in_ok-starts.ensures in
+    let said = opened_by plan c.as_slice.result.now (select_of s) c.args.e.now c.open_select.new.e starts hole o.code (ap indices_of c.as_slice-2.ensures ∙ o.holes) o.otherwise o.open o.aimed o.opens in
+    whole_ends plan sides cs d pos (select_of s) is c.as_slice.result.now ends_are c.args.e.now c.open_select.new.e starts hole said c.emit_cases.new.e c.args.left.now.items c.emit_cases.new.left.items c.in_ok-emit_cases.ensures.code c.len-outside.result (omega (arith, c.len-outside.ensures, c.args.left.now.ok.0)) c.end_here.new.e c.end_here.ensures.lines c.end_here.result c.end_here.new.left.items c.end_here.ensures.others
+
+pub select::emit_select-returns-clause-size : goal.select::emit_select-returns-clause-size
+select::emit_select-returns-clause-size t c =
+    let plan = c.args.plan.now in
+    let sides = sides_of c.args.sides.now in
+    let s = c.args.select.now in
+    let cs = cases_of c.as_slice-cases.result.now in
+    let d = default_of (out-KSelect s).otherwise in
+    let pos = (out-KSelect s).pos in
+    let is = select_is s c.as_slice-cases.result.now c.as_slice-cases.ensures in
+    let ends_are = c.as_slice.ensures ∙ c.in_ok-ends.ensures in
+    let starts = indices_of c.as_slice-2.result.now in
+    let hole = option_map index_of c.in_ok-starts.starts.otherwise in
+    let o = c.in_ok-starts.ensures in
+    let said = opened_by plan c.as_slice.result.now (select_of s) c.args.e.now c.open_select.new.e starts hole o.code (ap indices_of c.as_slice-2.ensures ∙ o.holes) o.otherwise o.open o.aimed o.opens in
+    let parts = ap (λ x. cases_parts (cases_in x)) is in
+    let size = ap (most plan.vars) is in
+    let same = whole_size plan sides cs d pos (select_of s) is c.as_slice.result.now ends_are c.args.e.now c.open_select.new.e starts hole said c.emit_cases.new.e c.args.left.now.items c.emit_cases.new.left.items c.in_ok-emit_cases.ensures.code c.len-outside.result (omega (arith, c.len-outside.ensures, c.args.left.now.ok.0)) c.end_here.new.e c.end_here.ensures.lines in
+    on_ok c.end_here.result (length c.end_here.new.e ≤ length c.args.e.now + most plan.vars (select_of s)) (omega (arith, same, parts, size, c.in_ok-emit_cases.ensures.size, o.size))
+
+pub select::emit_select-returns-clause-refused : goal.select::emit_select-returns-clause-refused
+select::emit_select-returns-clause-refused t c =
+    let plan = c.args.plan.now in
+    let sides = sides_of c.args.sides.now in
+    let s = c.args.select.now in
+    let cs = cases_of c.as_slice-cases.result.now in
+    let d = default_of (out-KSelect s).otherwise in
+    let pos = (out-KSelect s).pos in
+    let is = select_is s c.as_slice-cases.result.now c.as_slice-cases.ensures in
+    let ends_are = c.as_slice.ensures ∙ c.in_ok-ends.ensures in
+    let starts = indices_of c.as_slice-2.result.now in
+    let hole = option_map index_of c.in_ok-starts.starts.otherwise in
+    let o = c.in_ok-starts.ensures in
+    let said = opened_by plan c.as_slice.result.now (select_of s) c.args.e.now c.open_select.new.e starts hole o.code (ap indices_of c.as_slice-2.ensures ∙ o.holes) o.otherwise o.open o.aimed o.opens in
+    on_err c.end_here.result (Extends c.args.e.now c.end_here.new.e) (whole_extends plan sides cs d pos (select_of s) is c.as_slice.result.now ends_are c.args.e.now c.open_select.new.e starts hole said c.emit_cases.new.e c.args.left.now.items c.emit_cases.new.left.items c.in_ok-emit_cases.ensures.code c.len-outside.result (omega (arith, c.len-outside.ensures, c.args.left.now.ok.0)) c.end_here.new.e c.end_here.ensures.lines)

@@ -1,6 +1,6 @@
 use Rattle.std.proofs.Common.{List, [], sym, subst}
 use Rattle.xl_ends.specs.Sides.{sides_of}
-use Rattle.xl_statements.specs.declared.walk.Leaving.{Leaving}
+use Rattle.xl_statements.specs.declared.leaving.Leaving.{Leaving}
 use Rattle.xl_statements.specs.Built.{statements_of}
 use Rattle.xl_statements.specs.Emits.{AllEmit, Emitted}
 use Rattle.xl_expr.proofs.Emitted.{on_err}
@@ -12,8 +12,8 @@ emit_all-requires-clause-built c = c.requires.built
 pub emit_all-requires-clause-shallow : goal.emit_all-requires-clause-shallow
 emit_all-requires-clause-shallow c = c.requires.shallow
 
-pub emit_all-requires-clause-few : goal.emit_all-requires-clause-few
-emit_all-requires-clause-few c = c.requires.few
+pub emit_all-requires-clause-narrow : goal.emit_all-requires-clause-narrow
+emit_all-requires-clause-narrow c = c.requires.narrow
 
 pub emit_all-requires-clause-room : goal.emit_all-requires-clause-room
 emit_all-requires-clause-room c = c.requires.room
