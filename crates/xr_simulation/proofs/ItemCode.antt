@@ -27,6 +27,9 @@ pub mod Par
 pub mod ParOpens
 pub mod ParCloses
 pub mod Selects
+pub mod SelectResources
+pub mod SelectCases
+pub mod SelectOpens
 pub mod FixedPorts
 pub mod FixedTimers
 pub mod Fixed

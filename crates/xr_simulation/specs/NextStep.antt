@@ -45,7 +45,7 @@ use Rattle.xl_ends.specs.Ends.{Sides, codes_in}
 use Rattle.xl_par.specs.Acquired.{Acquired, IsAmong, nothing_acquired}
 use Rattle.xl_port.specs.Stamps.{Stamps}
 use Rattle.xl_image.specs.Images.{decl_of}
-use Rattle.xl_plan.specs.Layout.{port_number, timer_number}
+use Rattle.xl_plan.specs.Layout.{core_of, port_number, timer_number}
 use Rattle.xl_select.specs.Entry.{EntersPortCase, EntersTimerCase}
 use Rattle.xr_events.specs.Armed.{IsArmed, Places, res_of}
 use Rattle.xr_events.specs.Latches.{HasLatched}
@@ -251,7 +251,7 @@ module _ (g : Setting) (r : Runner) where
     pub timer : Timer
     pub there : slice_get z.core.timers (timer_place g r t) ≡ Some timer
 
-  -- the core has as many words, timers and watches as its part of the image gives it
+  -- the core has as many words, timers, channel ends and watches as its part of the image gives it
   abbrev pub IsSized : ThreadView → Type 0
   IsSized z = sizes_of z.core ≡ sizes_in (home g r).parts
 
@@ -286,11 +286,42 @@ module _ (g : Setting) (r : Runner) where
   EntersAt (resource.Timer t) i pc pc' = LinesAt (code g r) (EntersTimerCase (plan g r) i) pc pc'
   EntersAt (resource.Chan c) i pc pc' = ⊥
 
+  -- The code of a case's input stands at an index, and behind it that of what follows the input, with at most so many jumps. A port's or
+  -- timer's is entered with what was latched, and a channel's is a whole input.
+  abbrev pub CaseAt : KRes → kernel.Input → (behind : List Item) → (most index : ℕ) → Type 0
+  CaseAt (resource.Chan c) i behind most index =
+      (exits : List Exit) × (jumps : ℕ) × (jumps ≤ most) × ItemsFrom (does (kernel.input i) ∷ behind) exits index jumps
+  CaseAt res i behind most index =
+      (entered : ℕ) × (exits : List Exit) × (jumps : ℕ) × (jumps ≤ most)
+      × EntersAt i.resource i index entered × ItemsFrom behind exits entered jumps
+
+  -- and that of the default, where there is one
+  abbrev pub DefaultAt : Option Body → List Item → (most index : ℕ) → Type 0
+  DefaultAt None rest most index = Unit {0}
+  DefaultAt (Some body) rest most index =
+      (exits : List Exit) × (jumps : ℕ) × (jumps ≤ most) × ItemsFrom (body_items body rest) exits index jumps
+
+  -- A channel's side in which it stands has its end on the runner's core.
+  abbrev pub HasEndHere : KRes → Type 0
+  HasEndHere (resource.Port p) = Unit {0}
+  HasEndHere (resource.Timer t) = Unit {0}
+  HasEndHere (resource.Chan c) = (side : Side) × (slice_index_or r.sides c None ≡ Some side) × (core_of g.program c side ≡ r.core)
+
+  -- A thread stands at its select, with j jumps between what is left: it takes events there, its enabled cases are set up, each one's
+  -- vector leads to the case's code, and the default's stands behind the instruction that looks for an event once.
+  pub record StandsAtSelect (choices : List Choice) (otherwise : Option Body) (rest : List Item) (j pc : ℕ) (core : CoreState) : Type 0 where
+    pub code : WaitsAt (home g r) pc otherwise
+    pub armed : IsArmed resources_here r.thread choices core
+    pub ends : (n : ℕ) (c : Choice) → slice_get choices n ≡ Some c → HasEndHere c.input.resource
+    pub at_cases : (n : ℕ) (c : Choice) → slice_get choices n ≡ Some c →
+        CaseAt c.input.resource c.input (body_items c.body rest) (j + 1) (vector_of core.events (res_of resources_here c.input.resource))
+    pub at_default : DefaultAt otherwise rest (j + 1) (pc + 1)
+
   -- Where a thread stands between two own steps, at an index with these registers: at the code of its branch's items, with j jumps
   -- between them. A store is what an earlier item left to be done: its word is in r0, and behind its code, with whatever registers,
   -- stands what comes next, which takes no event, as long as the parts of the core stay on which that stands. So is a stamp: its port
   -- has it, and what comes behind its code stands on no part of the core. The input of a case that was taken stands at the case's
-  -- code, and its port or timer has latched what the input has fixed.
+  -- code, and its port or timer has latched what the input has fixed. A select that has begun stands where the thread takes events.
   abbrev pub IsPlacedAt : List Item → (j pc : ℕ) → Regs → CoreState → Type 0
   IsPlacedAt (stores place v ∷ rest) j pc regs core =
       (stored : ℕ) × (regs.r0 ≡ v) × LinesAt (code g r) (Stores (plan g r).vars place R0) pc stored × (is_watching rest ≡ false)
@@ -301,6 +332,7 @@ module _ (g : Setting) (r : Runner) where
   IsPlacedAt (fixed i v counter ∷ rest) j pc regs core =
       (entered : ℕ) × (exits : List Exit) × HasLatched resources_here core i.resource v counter
       × EntersAt i.resource i pc entered × ItemsFrom rest exits entered j
+  IsPlacedAt (chooses choices otherwise ∷ rest) j pc regs core = StandsAtSelect choices otherwise rest j pc core
   IsPlacedAt items j pc regs core = (exits : List Exit) × ItemsFrom items exits pc j
 
   -- the branch has these items, and the core has its words and ports
@@ -554,23 +586,7 @@ module _ (g : Setting) (r : Runner) where
     pub fits : ItemsFit g r items
     pub has : Has items z
 
-  -- The code of a case's input stands at an index, and behind it that of what follows the input, with at most so many jumps. A port's or
-  -- timer's is entered with what was latched, and a channel's is a whole input.
-  abbrev pub CaseAt : KRes → kernel.Input → (behind : List Item) → (most index : ℕ) → Type 0
-  CaseAt (resource.Chan c) i behind most index =
-      (exits : List Exit) × (jumps : ℕ) × (jumps ≤ most) × ItemsFrom (does (kernel.input i) ∷ behind) exits index jumps
-  CaseAt res i behind most index =
-      (entered : ℕ) × (exits : List Exit) × (jumps : ℕ) × (jumps ≤ most)
-      × EntersAt i.resource i index entered × ItemsFrom behind exits entered jumps
-
-  -- and that of the default, where there is one
-  abbrev pub DefaultAt : Option Body → List Item → (most index : ℕ) → Type 0
-  DefaultAt None rest most index = Unit {0}
-  DefaultAt (Some body) rest most index =
-      (exits : List Exit) × (jumps : ℕ) × (jumps ≤ most) × ItemsFrom (body_items body rest) exits index jumps
-
-  -- The thread takes events at its select: its enabled cases are set up on resources of the runner's own, each one's vector leads to the
-  -- case's code, and the default's stands behind the instruction that looks for an event once. Which cases are ready isn't said.
+  -- The thread is at its select, whose cases are on resources of the runner's own. Which cases are ready isn't said.
   pub record Selects (j : ℕ) (y : ThreadView) : Type 0 where
     pub choices : List Choice
     pub otherwise : Option Body
@@ -580,13 +596,8 @@ module _ (g : Setting) (r : Runner) where
     pub regs : Regs
     pub here : IsAtItems (chooses choices otherwise ∷ rest) y pc regs
     pub bases : HasBases regs
-    pub code : WaitsAt (home g r) pc otherwise
-    pub armed : IsArmed resources_here r.thread choices y.core
+    pub stands : StandsAtSelect choices otherwise rest j pc y.core
     pub own : (n : ℕ) (c : Choice) → slice_get choices n ≡ Some c → IsMine g r (res_of resources_here c.input.resource)
-    pub at_cases : (n : ℕ) (c : Choice) → slice_get choices n ≡ Some c →
-        CaseAt c.input.resource c.input (body_items c.body rest) (j + 1)
-        (vector_of y.core.events (res_of resources_here c.input.resource))
-    pub at_default : DefaultAt otherwise rest (j + 1) (pc + 1)
     pub fits : ItemsFit g r (chooses choices otherwise ∷ rest)
     pub has : Has (chooses choices otherwise ∷ rest) y
 

@@ -27,6 +27,7 @@ use Rattle.xc_meaning.specs.States.Items.{Item}
 use Rattle.xc_meaning.specs.Uses.{by_items}
 use Rattle.xl_ends.specs.Ends.{Sides, end_of_side}
 use Rattle.xr_simulation.specs.Parents.{Parent}
+use Rattle.xr_simulation.specs.Sizes.{most_watches}
 use Rattle.xr_simulation.specs.Transfers.{Transfer}
 
 -- a program, its image, a stimulus, and the plan of each core
@@ -170,17 +171,20 @@ module _ (g : Setting) (r : Runner) where
   abbrev pub end_place : (channel : ℕ) → Side → ℕ
   end_place c side = end_number g.program r.core c side
 
-  -- a channel of the kernel's that the runner's core uses
+  -- a channel of the runner's, which its core uses
   pub record IsChannel (c : ℕ) : Type 0 where
+    pub mine : r.footprint.channels c ≡ true
     pub known : c < length g.program.channels
     pub used : is_used_on g.program r.core c ≡ true
 
-  -- the plan has the identifier of a side's end
+  -- the plan has the identifier of a side's end, which is on the runner's core
   pub record EndIsPlanned (c : ℕ) (side : Side) : Type 0 where
     pub place : ℕ
     pub is : end_of_side (slice_get plan.channels c) (Some side) ≡ Some place
     pub identifier : end_in plan.ends place ≡ Some (Fixed (end_name r.core (end_place c side)))
     pub names : named home.number (end_name r.core (end_place c side)) ≡ AnEnd (end_place c side)
+    pub here : core_of g.program c side ≡ r.core
+    pub there : end_place c side < home.parts.ends
 
   -- a port of the runner's, as the kernel has it
   pub record IsPort (p : ℕ) (listed : PortUse) : Type 0 where
@@ -196,7 +200,6 @@ module _ (g : Setting) (r : Runner) where
 
   -- and the end of the side in which it stands of a channel
   pub record IsEnd (c : ℕ) (side : Side) : Type 0 where
-    pub mine : r.footprint.channels c ≡ true
     pub channel : IsChannel c
     pub stands_in : slice_index_or r.sides c None ≡ Some side
     pub here : core_of g.program c side ≡ r.core
@@ -227,8 +230,8 @@ module _ (g : Setting) (r : Runner) where
   IsMine (ResEnd n) = IsOwnEnd n
 
   -- Its block is the outermost, the variables of its core stand near, no two of them share a word, and none is a temporary one of
-  -- the runner's. Its ports, its timers and its channels' ends have the identifiers that the plan gives them, and the timers are among
-  -- those of the core.
+  -- the runner's. Its ports, its timers and its channels' ends have the identifiers that the plan gives them, and are among those of the
+  -- core. Different ones have different places, for each of which there is a watch.
   pub record IsLaidOut : Type 0 where
     pub block : r.block ≡ outside
     pub frame : Frame (places g r.core) relied r.footprint.uses r.stack 0
@@ -243,3 +246,9 @@ module _ (g : Setting) (r : Runner) where
         named home.number (timer_name r.core (timer_place t)) ≡ ATimer (timer_place t)
     pub timers : (t : ℕ) (listed : Timer) → IsTimer t listed → timer_place t < home.parts.timers
     pub ends : (c : ℕ) (side : Side) → IsChannel c → EndIsPlanned c side
+    pub few_ports : (p : ℕ) (listed : PortUse) → IsPort p listed → port_place p < most_watches
+    pub few_timers : (t : ℕ) (listed : Timer) → IsTimer t listed → timer_place t < most_watches
+    pub few_ends : (c : ℕ) (side : Side) → IsChannel c → end_place c side < most_watches
+    pub ports_differ : (p q : ℕ) (listed other : PortUse) → IsPort p listed → IsPort q other → port_place p ≡ port_place q → p ≡ q
+    pub timers_differ : (t u : ℕ) (listed other : Timer) → IsTimer t listed → IsTimer u other → timer_place t ≡ timer_place u → t ≡ u
+    pub ends_differ : (c d : ℕ) (side other : Side) → IsChannel c → IsChannel d → end_place c side ≡ end_place d other → c ≡ d

@@ -210,7 +210,7 @@ module _ {moment : Moment none_rests} {thread_at : ThreadAt moment None} (branch
           Next near_end r.thread thread (left regs es) boxes (side_state later false) → Goal
       goes_row es is_made made =
           followed rests elsewhere (left regs es) None [] (ap (stepped (home g r) w.machine r.core r.thread a) is_made)
-          (goes_on_so branch_at on pc regs here es next rests fewer few (by es)
+          (goes_on_so branch_at on pc regs here es made.size next rests fewer few (by es)
           (wired_moves g is.lines who w.machine x.state st.wired c t a at_c r None runs_r (record r { transfer = next }) None channel side
           line is_line sides_on later
           (at_end.moves (record r { transfer = next }) later then) (left regs es) _ x.state refl made.size refl
@@ -297,7 +297,7 @@ module _ {moment : Moment none_rests} {thread_at : ThreadAt moment None} (branch
         Next near_end r.thread (running r.tie does.pc does.before) (own.left does es) boxes' (side_state later false) → Goal
     acts_row es is_made made =
         followed rests elsewhere (own.left does es) does.made [] (ap (stepped (home g r) w.machine r.core r.thread a) is_made)
-        (does_so does es rests j further few enough (by es)
+        (does_so does es made.size rests j further few enough (by es)
         (wired_moves g is.lines who w.machine x.state st.wired c t a at_c r None runs_r (own.s does) None channel side line is_line
         sides_on later
         (at_end.moves (own.s does) later then) (own.left does es) _ does.world refl made.size as_many

@@ -1,5 +1,5 @@
 -- A thread inside a transfer: its side's line and spot, and what its steps without an action of the program's leave.
-use Rattle.std.proofs.Common.{◌≡◌, ℕ, suc, ◌+◌, ◌*◌, ◌≤◌, ◌≢◌, List, [], Option, Some, None, refl, sym, ap, ◌∙◌, subst, arith}
+use Rattle.std.proofs.Common.{◌≡◌, ℕ, suc, ◌+◌, ◌*◌, ◌≤◌, ◌≢◌, List, [], length, Option, Some, None, refl, sym, ap, ◌∙◌, subst, arith}
 use Rattle.std.specs.Prelude.{Bool, false, slice_get, slice_set}
 use Rattle.std.proofs.lemmas.Option.{none-some, same_Some}
 use Rattle.xs_instr.specs.declared.state.ChanEnd.{ChanEnd}
@@ -97,7 +97,7 @@ module _ {may_rest : (core thread : ℕ) → Bool} {moment : Moment may_rest} {h
 module _ {moment : Moment none_rests} {thread_at : ThreadAt moment None} (branch_at : BranchAt thread_at)
     (on : branch_at.branch.mode ≡ runs) (pc : ℕ) (regs : Regs)
     (here : slice_get thread_at.state.threads thread_at.runner.thread ≡ Some (running thread_at.runner.tie pc regs))
-    (ends : List ChanEnd) (next : Option Transfer) where
+    (ends : List ChanEnd) (size : length ends ≡ length thread_at.state.ends) (next : Option Transfer) where
   open moment use {setting as g, image as is, roles as who, watched as w, told as x}
   open thread_at use {core as c, thread as t, state as a, runner as r}
   open branch_at use {branch, known, stand}
@@ -112,7 +112,7 @@ module _ {moment : Moment none_rests} {thread_at : ThreadAt moment None} (branch
   behind = record { core = left; world = x.state; hand = None }
 
   abbrev pub watched : Watched
-  watched = watched_next thread_at left (advance g r a pc regs regs here ends) next
+  watched = watched_next thread_at left (advance g r a pc regs regs here ends size) next
 
   abbrev more : ℕ → ℕ
   more = (told_by g.program g.stimulus x [] x.state).actions
@@ -163,8 +163,8 @@ module _ {moment : Moment none_rests} {thread_at : ThreadAt moment None} (branch
 
   -- so the two sides stand so again
   pub goes_on_so : (may_rest' : (core thread : ℕ) → Bool) (fewer : ℕ) → suc fewer ≤ stand.left → ProgressWith g s (may_rest' c t) next branch.items fewer behind →
-      AreWired g (who_next thread_at left (advance g r a pc regs regs here ends) next) watched.machine x.state →
+      AreWired g (who_next thread_at left (advance g r a pc regs regs here ends size) next) watched.machine x.state →
       ((transfer : Transfer) → next ≡ Some transfer → HasAlone x.state.branches transfer.channel transfer.side r.branch) → Follows g may_rest' who w x watched
   goes_on_so may_rest' fewer few by wired alone =
-      advances thread_at left (advance g r a pc regs regs here ends) next may_rest' branch known wired alone
+      advances thread_at left (advance g r a pc regs regs here ends size) next may_rest' branch known wired alone
       (own_stand (may_rest' c t) fewer few by)

@@ -87,33 +87,6 @@ module _ {moment : Moment none_rests} {thread_at : ThreadAt moment None} {branch
   abbrev pub behind : ThreadView
   behind = record { core = left; world = world; hand = None }
 
-  abbrev pub own_step : OwnStep g r c a x.state
-  own_step = record {
-    left = left;
-    made = made;
-    branch = branch;
-    known = known;
-    running = on;
-    world = world;
-    piece = go r.branch ∷ [];
-    acted = ap (λ o. acts_all g.program g.stimulus o []) acted;
-    paid = counts_own g r.branch x.state branch (go r.branch) [] known own_go;
-    next = record branch { items = items };
-    birth = refl;
-    is_next = is_next;
-    core = refl;
-    guarantee = touches g r a pc regs regs' here ends x.state;
-    syncs = refl;
-    tie = λ thread there. inl (tied_still g r a pc regs regs' here ends thread there);
-    roots = refl;
-    holds = answers.store_as g r c a x.state now behind refl store has.holds;
-    ports = answers.ports_as g r c a x.state now behind (λ p listed its. refl) has.ports;
-    transfer = transfer;
-  }
-
-  abbrev pub watched : Watched
-  watched = watched_on thread_at own_step none_rests
-
   abbrev more : ℕ → ℕ
   more = (told_by g.program g.stimulus x (go r.branch ∷ []) world).actions
 
@@ -143,51 +116,80 @@ module _ {moment : Moment none_rests} {thread_at : ThreadAt moment None} {branch
       runs_ended : runs ≡ ended → ⊥
       runs_ended f = cc
 
-  -- its life is one step longer
-  bound_behind : (j further : ℕ) → j ≤ stand.left → further ≤ j + 2 + cost g r → (watched.lives c t).steps + further ≤ kernel_bound g.program * (more r.family + 1)
-  bound_behind j further few enough =
-      let one : 1 ≤ steps_of g.program g.stimulus branch.family (Some x.state) (go r.branch ∷ []) = counts_own g r.branch x.state branch (go r.branch) [] known own_go in
-      let one' : 1 ≤ steps_of g.program g.stimulus r.family (Some x.state) (go r.branch ∷ []) = subst (λ f. 1 ≤ steps_of g.program g.stimulus f (Some x.state) (go r.branch ∷ [])) stand.family one in
-      let life : (watched.lives c t).steps ≡ (w.lives c t).steps + 1 = ap (λ (l : Life). l.steps) (own_life w watched.machine c t) in
-      let all = pays_for (kernel_bound g.program) (greatest_count g.program) (w.lives c t).steps stand.left j further (x.actions r.family) (steps_of g.program g.stimulus r.family (Some x.state) (go r.branch ∷ [])) refl stand.bound few enough one' in
-      subst (λ k. k + further ≤ kernel_bound g.program * (more r.family + 1)) (sym life) all
+  -- The ends are as many as before.
+  module _ (size : length ends ≡ length a.ends) where
+    abbrev pub own_step : OwnStep g r c a x.state
+    own_step = record {
+      left = left;
+      made = made;
+      branch = branch;
+      known = known;
+      running = on;
+      world = world;
+      piece = go r.branch ∷ [];
+      acted = ap (λ o. acts_all g.program g.stimulus o []) acted;
+      paid = counts_own g r.branch x.state branch (go r.branch) [] known own_go;
+      next = record branch { items = items };
+      birth = refl;
+      is_next = is_next;
+      core = refl;
+      guarantee = touches g r a pc regs regs' here ends size x.state;
+      syncs = refl;
+      tie = λ thread there. inl (tied_still g r a pc regs regs' here ends thread there);
+      roots = refl;
+      holds = answers.store_as g r c a x.state now behind refl store has.holds;
+      ports = answers.ports_as g r c a x.state now behind (λ p listed its. refl) has.ports;
+      transfer = transfer;
+    }
 
-  own_stand : (rests : Bool) (j further : ℕ) → j ≤ stand.left → further ≤ j + 2 + cost g r →
-      ProgressWith g (s does) rests transfer items further behind →
-      RunsBranch g (s does) rests None left world (watched.lives c t) more (record branch { items = items })
-  own_stand rests j further few enough by = record {
-    core = stand.core;
-    family = stand.family;
-    footprint = refl;
-    parents = parents_behind branch_at own_step;
-    thread = record {
-      thread = running r.tie (pc + 1) regs';
-      there = gone_on g r a pc regs regs' here ends;
-      tied = refl;
-      events = events_on branch.mode items false on (sym unwatched);
-      is = subst (λ m. ThreadIs r.parents m Running) (sym on) refl;
-    };
-    in_hand = empty refl;
-    sides = stand.sides;
-    inside = stand.inside;
-    done = λ over. absurd (runs_ended (sym on ∙ over));
-    stops = λ over. absurd (runs_erred (sym on ∙ over));
-    ends_tied = λ over. absurd (runs_ended (sym on ∙ over));
-    left = further;
-    bound = bound_behind j further few enough;
-    by = subst (λ m. ProgressBy g (s does) rests items m further behind) (sym on) by;
-  }
-    where
-      runs_ended : runs ≡ ended → ⊥
-      runs_ended f = cc
+    abbrev pub watched : Watched
+    watched = watched_on thread_at own_step none_rests
 
-      runs_erred : runs ≡ erred → ⊥
-      runs_erred f = cc
+    -- its life is one step longer
+    bound_behind : (j further : ℕ) → j ≤ stand.left → further ≤ j + 2 + cost g r → (watched.lives c t).steps + further ≤ kernel_bound g.program * (more r.family + 1)
+    bound_behind j further few enough =
+        let one : 1 ≤ steps_of g.program g.stimulus branch.family (Some x.state) (go r.branch ∷ []) = counts_own g r.branch x.state branch (go r.branch) [] known own_go in
+        let one' : 1 ≤ steps_of g.program g.stimulus r.family (Some x.state) (go r.branch ∷ []) = subst (λ f. 1 ≤ steps_of g.program g.stimulus f (Some x.state) (go r.branch ∷ [])) stand.family one in
+        let life : (watched.lives c t).steps ≡ (w.lives c t).steps + 1 = ap (λ (l : Life). l.steps) (own_life w watched.machine c t) in
+        let all = pays_for (kernel_bound g.program) (greatest_count g.program) (w.lives c t).steps stand.left j further (x.actions r.family) (steps_of g.program g.stimulus r.family (Some x.state) (go r.branch ∷ [])) refl stand.bound few enough one' in
+        subst (λ k. k + further ≤ kernel_bound g.program * (more r.family + 1)) (sym life) all
 
-  -- so the two sides stand so again
-  pub does_so : (rests : (core thread : ℕ) → Bool) (j further : ℕ) → j ≤ stand.left → further ≤ j + 2 + cost g r →
-      ProgressWith g (s does) (rests c t) transfer items further behind →
-      AreWired g (with_role who c t (used_by (s does) None)) watched.machine world →
-      ((which : Transfer) → transfer ≡ Some which → HasAlone world.branches which.channel which.side r.branch) → Follows g rests who w x watched
-  does_so rests j further few enough by wired alone =
-      goes_on_answered thread_at own_step rests wired alone (own_stand (rests c t) j further few enough by)
+    own_stand : (rests : Bool) (j further : ℕ) → j ≤ stand.left → further ≤ j + 2 + cost g r →
+        ProgressWith g (s does) rests transfer items further behind →
+        RunsBranch g (s does) rests None left world (watched.lives c t) more (record branch { items = items })
+    own_stand rests j further few enough by = record {
+      core = stand.core;
+      family = stand.family;
+      footprint = refl;
+      parents = parents_behind branch_at own_step;
+      thread = record {
+        thread = running r.tie (pc + 1) regs';
+        there = gone_on g r a pc regs regs' here ends;
+        tied = refl;
+        events = events_on branch.mode items false on (sym unwatched);
+        is = subst (λ m. ThreadIs r.parents m Running) (sym on) refl;
+      };
+      in_hand = empty refl;
+      sides = stand.sides;
+      inside = stand.inside;
+      done = λ over. absurd (runs_ended (sym on ∙ over));
+      stops = λ over. absurd (runs_erred (sym on ∙ over));
+      ends_tied = λ over. absurd (runs_ended (sym on ∙ over));
+      left = further;
+      bound = bound_behind j further few enough;
+      by = subst (λ m. ProgressBy g (s does) rests items m further behind) (sym on) by;
+    }
+      where
+        runs_ended : runs ≡ ended → ⊥
+        runs_ended f = cc
+
+        runs_erred : runs ≡ erred → ⊥
+        runs_erred f = cc
+
+    -- so the two sides stand so again
+    pub does_so : (rests : (core thread : ℕ) → Bool) (j further : ℕ) → j ≤ stand.left → further ≤ j + 2 + cost g r →
+        ProgressWith g (s does) (rests c t) transfer items further behind →
+        AreWired g (with_role who c t (used_by (s does) None)) watched.machine world →
+        ((which : Transfer) → transfer ≡ Some which → HasAlone world.branches which.channel which.side r.branch) → Follows g rests who w x watched
+    does_so rests j further few enough by wired alone =
+        goes_on_answered thread_at own_step rests wired alone (own_stand (rests c t) j further few enough by)

@@ -6,6 +6,7 @@ use Rattle.xs_instr.specs.declared.state.Regs.{Regs}
 use Rattle.xs_instr.specs.Registers.{reg_get}
 use Rattle.xl_expr.specs.Stores.{is_working}
 use Rattle.xl_expr.specs.Works.{is_scratch}
+use Rattle.xl_select.specs.Opening.{is_arming}
 use Rattle.xr_simulation.specs.Runners.{Setting, Runner}
 use Rattle.xr_simulation.specs.NextStep.{HasBases, name_register}
 
@@ -29,6 +30,16 @@ not_scratch (suc (suc (suc (suc zero)))) = refl
 not_scratch (suc (suc (suc (suc (suc zero))))) = refl
 not_scratch (suc (suc (suc (suc (suc (suc k)))))) = refl
 
+-- nor in one that the opening of a select uses
+pub not_arming : (k : ℕ) → is_arming (name_register k) ≡ false
+not_arming zero = refl
+not_arming (suc zero) = refl
+not_arming (suc (suc zero)) = refl
+not_arming (suc (suc (suc zero))) = refl
+not_arming (suc (suc (suc (suc zero)))) = refl
+not_arming (suc (suc (suc (suc (suc zero))))) = refl
+not_arming (suc (suc (suc (suc (suc (suc k)))))) = refl
+
 module _ (g : Setting) (r : Runner) (old new : Regs) where
   -- where no register is changed but some
   pub bases_but : (some : Reg → Bool) → some Dp ≡ false → some Sp ≡ false → ((k : ℕ) → some (name_register k) ≡ false) →
@@ -46,3 +57,7 @@ module _ (g : Setting) (r : Runner) (old new : Regs) where
   -- none but those that expressions use
   pub bases_scratched : ((x : Reg) → is_scratch x ≡ false → reg_get new x ≡ reg_get old x) → HasBases g r old → HasBases g r new
   bases_scratched others h = bases_but is_scratch refl refl not_scratch others h
+
+  -- none but those that the opening of a select uses
+  pub bases_armed : ((x : Reg) → is_arming x ≡ false → reg_get new x ≡ reg_get old x) → HasBases g r old → HasBases g r new
+  bases_armed others h = bases_but is_arming refl refl not_arming others h

@@ -1,19 +1,23 @@
 -- The channel ends of a core, as its plan has them.
-use Rattle.std.proofs.Common.{◌≡◌, ⊎_elim, ℕ, zero, suc, ◌+◌, ◌<◌, ◌≤◌, true, List, [], ◌∷◌, ◌++◌, length, Some, nat_eq, slice_get, refl, sym, ap, ◌∙◌, arith}
+use Rattle.std.proofs.Common.{◌≡◌, ◌≢◌, ⊎_elim, ℕ, zero, suc, ◌<◌, ◌≤◌, true, List, [], ◌∷◌, ◌++◌, length, Some, nat_eq, slice_get, refl, sym, ap, ◌∙◌, arith}
 use Rattle.std.proofs.lemmas.Bool.{cases_lt}
 use Rattle.xc_kernel.specs.Plain as kernel
 use Rattle.xc_disjoint.specs.Checked.{IsChecked}
 use Rattle.xc_disjoint.specs.Cores.{if_so, on_core}
+use Rattle.xc_disjoint.specs.Needs.{ends_on}
+use Rattle.xc_meaning.proofs.Basics.{same_or_not}
 use Rattle.xc_meaning.specs.States.Channels.{Side, first, second}
 use Rattle.xl_expr.specs.declared.plan.ResAt.TheVariants.{Fixed}
 use Rattle.xl_expr.specs.Plans.{end_in}
 use Rattle.xl_image.specs.Images.{IsPlan}
 use Rattle.xl_image.specs.Roots.{StayOnCores}
 use Rattle.xl_plan.specs.Layout.{end_name, end_places, ends_before, ends_below, first_there, places_on, second_there, side_cores}
-use Rattle.xl_plan.proofs.Ends.{few_ends}
+use Rattle.xl_plan.proofs.Ends.{ends_are_used, few_ends}
 use Rattle.xl_ends.specs.Ends.{end_of_side, place_of}
-use Rattle.xr_simulation.specs.Runners.{EndIsPlanned, IsChannel, Runner, Setting, end_place, plan}
-use Rattle.xr_simulation.proofs.Image.Sides.{both, known}
+use Rattle.xr_simulation.specs.Runners.{EndIsPlanned, IsChannel, Runner, Setting, end_place, home, plan}
+use Rattle.xr_simulation.specs.Sizes.{most_watches}
+use Rattle.xr_simulation.proofs.Image.Places.{order}
+use Rattle.xr_simulation.proofs.Image.Sides.{both, known, sides_on}
 use Rattle.xr_simulation.proofs.Image.ResourceNames.{end_named}
 
 -- what is put behind a list stands there
@@ -80,51 +84,85 @@ module _ (K : kernel.Kernel) (core : ℕ) where
 one_there : (core its : ℕ) → its ≡ core → on_core core its 1 ≡ 1
 one_there core its e = ap (λ b. if_so b 1) (let z : nat_eq its core ≡ true = grind (arith, e) in z)
 
-module _ (g : Setting) (checked : IsChecked g.program) (stay : StayOnCores g.program) (r : Runner) (is_core : r.core < 4) (planned : IsPlan g.program r.core (plan g r)) where
+module _ (g : Setting) (checked : IsChecked g.program) (stay : StayOnCores g.program) (r : Runner) (is_core : r.core < 4) (planned : IsPlan g.program r.core (plan g r))
+    (counted : (home g r).parts.ends ≡ ends_on g.program r.core) where
   abbrev all : ℕ
   all = ends_before g.program r.core (length g.program.channels)
 
   few : all ≤ 32
   few = few_ends g.program r.core checked (omega (arith, is_core))
 
-  -- The plan has the identifiers of both ends of a channel of the core's.
-  pub ends_planned : (c : ℕ) (side : Side) → IsChannel g r c → EndIsPlanned g r c side
-  ends_planned c side is = by side
-    where
-      first_one : first_there r.core (side_cores c g.program.roots) ≡ 1
-      first_one =
-          ap (first_there r.core) (known g.program stay r.core c is.used).are
-          ∙ one_there r.core (known g.program stay r.core c is.used).cores.first (both g.program stay r.core c is.used).0
+  -- A channel of the core's has both ends there.
+  module _ (c : ℕ) (is : IsChannel g r c) where
+    first_one : first_there r.core (side_cores c g.program.roots) ≡ 1
+    first_one =
+        ap (first_there r.core) (known g.program stay r.core c is.used).are
+        ∙ one_there r.core (known g.program stay r.core c is.used).cores.first (both g.program stay r.core c is.used).0
 
-      second_one : second_there r.core (side_cores c g.program.roots) ≡ 1
-      second_one =
-          ap (second_there r.core) (known g.program stay r.core c is.used).are
-          ∙ one_there r.core (known g.program stay r.core c is.used).cores.second (both g.program stay r.core c is.used).1
+    second_one : second_there r.core (side_cores c g.program.roots) ≡ 1
+    second_one =
+        ap (second_there r.core) (known g.program stay r.core c is.used).are
+        ∙ one_there r.core (known g.program stay r.core c is.used).cores.second (both g.program stay r.core c is.used).1
 
-      inside : ends_before g.program r.core c + 2 ≤ all
-      inside =
-          let behind = more g.program r.core c (length g.program.channels) is.known in
-          let a = first_one in
-          let b = second_one in
-          omega (arith, behind, a, b)
+    -- where its ends begin, and those of the channels behind it
+    least : (side : Side) → ends_before g.program r.core c ≤ end_place g r c side
+    least first = omega arith
+    least second = omega arith
 
-      places_are : slice_get (plan g r).channels c ≡ Some (places_on g.program r.core c)
-      places_are = ap (λ l. slice_get l c) planned.channels ∙ places_at g.program r.core (length g.program.channels) c is.known
+    most : (side : Side) → end_place g r c side < ends_before g.program r.core (suc c)
+    most first = let a = first_one in omega (arith, a)
+    most second = let a = first_one in let b = second_one in omega (arith, a, b)
 
-      -- an end has its identifier
-      identified : (e : ℕ) → e < all → end_in (plan g r).ends e ≡ Some (Fixed (end_name r.core e))
-      identified e lt = ap (λ l. slice_get l e) planned.ends ∙ end_at r.core all e lt
+    inside : (side : Side) → end_place g r c side < all
+    inside side =
+        let behind = more g.program r.core c (length g.program.channels) is.known in
+        let below = most side in
+        omega (arith, behind, below)
 
-      planned_at : (side : Side) → place_of (places_on g.program r.core c) side ≡ end_place g r c side → end_place g r c side < all → EndIsPlanned g r c side
-      planned_at side same lt =
-          let small = few in
-          record {
-            place = end_place g r c side;
-            is = ap (λ o. end_of_side o (Some side)) places_are ∙ ap Some same;
-            identifier = identified (end_place g r c side) lt;
-            names = end_named r.core (end_place g r c side) (omega (arith, lt, small));
-          }
+    places_are : slice_get (plan g r).channels c ≡ Some (places_on g.program r.core c)
+    places_are = ap (λ l. slice_get l c) planned.channels ∙ places_at g.program r.core (length g.program.channels) c is.known
 
-      by : (side : Side) → EndIsPlanned g r c side
-      by first = planned_at first refl (let i = inside in omega (arith, i))
-      by second = planned_at second refl (let i = inside in let a = first_one in omega (arith, i, a))
+    -- an end has its identifier
+    identified : (e : ℕ) → e < all → end_in (plan g r).ends e ≡ Some (Fixed (end_name r.core e))
+    identified e lt = ap (λ l. slice_get l e) planned.ends ∙ end_at r.core all e lt
+
+    place_is : (side : Side) → place_of (places_on g.program r.core c) side ≡ end_place g r c side
+    place_is first = refl
+    place_is second = refl
+
+    -- The plan has the identifiers of both.
+    pub ends_planned : (side : Side) → EndIsPlanned g r c side
+    ends_planned side =
+        let lt = inside side in
+        let small = few in
+        record {
+          place = end_place g r c side;
+          is = ap (λ o. end_of_side o (Some side)) places_are ∙ ap Some (place_is side);
+          identifier = identified (end_place g r c side) lt;
+          names = end_named r.core (end_place g r c side) (omega (arith, lt, small));
+          here = sides_on g.program stay r.core c is.used side;
+          there =
+              let as_many = ends_are_used g.program r.core checked in
+              let there = counted in
+              omega (arith, lt, as_many, there);
+        }
+
+    pub few_ends_there : (side : Side) → end_place g r c side < most_watches
+    few_ends_there side = let lt = inside side in let small = few in omega (arith, lt, small)
+
+  -- Of two channels the one behind has its ends behind the other's.
+  later_differ : (c d : ℕ) (side other : Side) → IsChannel g r c → IsChannel g r d → c < d → end_place g r c side ≢ end_place g r d other
+  later_differ c d side other is is' lt same =
+      let a = most c is side in
+      let b = more g.program r.core c d lt in
+      let e = least d is' other in
+      omega (arith, a, b, e, same)
+
+  pub ends_differ : (c d : ℕ) (side other : Side) → IsChannel g r c → IsChannel g r d → end_place g r c side ≡ end_place g r d other → c ≡ d
+  ends_differ c d side other is is' same =
+      ⊎_elim (λ e. e)
+      (λ ne. ⊎_elim
+      (λ lt. absurd (later_differ c d side other is is' lt same))
+      (λ lt. absurd (later_differ d c other side is' is lt (sym same)))
+      (order c d ne))
+      (same_or_not c d)

@@ -144,7 +144,7 @@ module _ (g : Setting) (checked : IsChecked g.program) (core : ℕ) (root : kern
     channel_fits : (c : ℕ) → c < length g.program.channels → by_statements (channel c) root.body ≡ true → IsChannel g r c
     channel_fits c lt u =
         let at = contained_at g.program.roots root among in
-        record { known = lt; used = used_by_root core c g.program.roots at.0 root at.1 here u }
+        record { mine = refl; known = lt; used = used_by_root core c g.program.roots at.0 root at.1 here u }
 
     input_fits : (s : KRes) (time : Option kernel.Expression) (condition : Option kernel.Condition) (stamp : Option kernel.Place) →
         InputComes g.program.ports (length g.program.channels) (length g.program.timers) s time condition stamp → AreOf (λ th. by_resource th s) → TakesInAt g r s

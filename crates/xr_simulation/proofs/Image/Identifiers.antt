@@ -18,7 +18,7 @@ use Rattle.xr_simulation.specs.ThreadViews.{ThreadView}
 use Rattle.xr_simulation.specs.NextStep.{IsSized, TimerIs}
 
 -- what is at a place below the length of a list
-listed_at : {A : Type 0} (xs : List A) (n : ℕ) → n < length xs → (x : A) × (slice_get xs n ≡ Some x)
+pub listed_at : {A : Type 0} (xs : List A) (n : ℕ) → n < length xs → (x : A) × (slice_get xs n ≡ Some x)
 listed_at [] n lt = absurd (omega arith)
 listed_at (x ∷ xs) zero lt = (x, refl)
 listed_at (x ∷ xs) (suc n) lt = listed_at xs n (omega arith)

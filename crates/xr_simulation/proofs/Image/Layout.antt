@@ -27,9 +27,10 @@ use Rattle.xl_plan.proofs.Numbered.{listed}
 use Rattle.xl_plan.proofs.PortsDiffer.{ports_apart}
 use Rattle.xl_plan.proofs.Sizes.{few_words}
 use Rattle.xr_simulation.specs.Images.{IsCoreOf}
+use Rattle.xr_simulation.specs.Sizes.{most_watches}
 use Rattle.xr_simulation.specs.Runners.{Activation, Setting, Runner, IsLaidOut, IsPort, anyone, is_among_words, is_word_among, outside, places, plan, plan_in, port_place, relied, IsTimer, timer_place}
 use Rattle.xr_simulation.proofs.Image.Footprints.{HasAll, words_there}
-use Rattle.xr_simulation.proofs.Image.Ends.{ends_planned}
+use Rattle.xr_simulation.proofs.Image.Ends.{ends_differ, ends_planned, few_ends_there}
 use Rattle.xr_simulation.proofs.Image.Plans.{IsImaged}
 use Rattle.xr_simulation.proofs.Image.ResourceNames.{port_named, timer_named}
 use Rattle.xr_simulation.proofs.Image.Places.{is_there, numbers_differ}
@@ -110,20 +111,27 @@ module _ (g : Setting) (checked : IsChecked g.program) (core : ℕ) (is_core : c
       let many = im.timers in
       omega (arith, all, one, many)
 
-  -- a port's number is small
-  place_small : (p : ℕ) (x : PortUse) → slice_get g.program.ports p ≡ Some x → port_place g (anyone core) p < 2 ^ 16
-  place_small p x e =
+  -- there is a watch for a port's number
+  few_place : (p : ℕ) (x : PortUse) → slice_get g.program.ports p ≡ Some x → port_place g (anyone core) p < most_watches
+  few_place p x e =
       let a = within_all (ports_here core) g.program.ports p x e in
       let b = few_ports core g.program.ports (ports_apart g.program core (let z : core ≤ 3 = omega (arith, is_core) in z) checked.of_program) in
       omega (arith, a, b)
 
-  -- and so is a timer's
-  timer_small : (t : ℕ) (x : Timer) → IsTimer g (anyone core) t x → timer_place g (anyone core) t < 2 ^ 16
-  timer_small t x is =
+  -- and for a timer's
+  few_timer : (t : ℕ) (x : Timer) → IsTimer g (anyone core) t x → timer_place g (anyone core) t < most_watches
+  few_timer t x is =
       let a = timers_are t x is in
       let b = im.timers in
       let c = few_timers g.program checked core (let z : core ≤ 3 = omega (arith, is_core) in z) in
       omega (arith, a, b, c)
+
+  -- so both are small
+  place_small : (p : ℕ) (x : PortUse) → slice_get g.program.ports p ≡ Some x → port_place g (anyone core) p < 2 ^ 16
+  place_small p x e = let few = few_place p x e in omega (arith, few)
+
+  timer_small : (t : ℕ) (x : Timer) → IsTimer g (anyone core) t x → timer_place g (anyone core) t < 2 ^ 16
+  timer_small t x is = let few = few_timer t x is in omega (arith, few)
 
 -- A runner on its core.
 module _ (g : Setting) (checked : IsChecked g.program) (stay : StayOnCores g.program) (r : Runner) (is_core : r.core < 4) (im : IsImaged g.program r.core (parts_in g.image.cores r.core) (g.plans r.core))
@@ -172,7 +180,16 @@ module _ (g : Setting) (checked : IsChecked g.program) (stay : StayOnCores g.pro
     timer_names = λ t x is. timer_named r.core (timer_place g r t)
         (timer_small g checked r.core is_core im t x (record { mine = refl; known = is.known; core = is.core }));
     timers = λ t x is. timers_are g checked r.core is_core im t x (record { mine = refl; known = is.known; core = is.core });
-    ends = λ c side is. ends_planned g checked stay r is_core planned c side is;
+    ends = λ c side is. ends_planned g checked stay r is_core planned im.ends c is side;
+    few_ports = λ p x is. few_place g checked r.core is_core im p x is.known;
+    few_timers = λ t x is.
+        few_timer g checked r.core is_core im t x (record { mine = refl; known = is.known; core = is.core });
+    few_ends = λ c side is. few_ends_there g checked stay r is_core planned im.ends c is side;
+    ports_differ = λ p q x y is is' same.
+        numbers_differ core_of_port g.program.ports r.core p q x y is.known is'.known is.core is'.core same;
+    timers_differ = λ t u x y is is' same.
+        numbers_differ core_of_timer g.program.timers r.core t u x y is.known is'.known is.core is'.core same;
+    ends_differ = λ c d side other is is' same. ends_differ g checked stay r is_core planned im.ends c d side other is is' same;
   }
 
 -- What the simulation asks of a core.

@@ -98,7 +98,7 @@ module _ (base : ℕ) (vars : List (Option VarPlan)) (is_meant : ℕ → Bool) w
 
 -- Ports and timers.
 
-order : (p q : ℕ) → p ≢ q → (p < q) ⊎ (q < p)
+pub order : (p q : ℕ) → p ≢ q → (p < q) ⊎ (q < p)
 order p q h = grind arith
 
 counted : (core at : ℕ) → at ≡ core → on_core core at 1 ≡ 1

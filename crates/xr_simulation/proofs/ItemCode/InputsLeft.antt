@@ -88,5 +88,5 @@ module _ (g : Setting) (r : Runner) where
       left_stands last core bases' in_r0 has_stamp =
           storing_stands g r stamp_left at_write j its.write (stand_front (code g r) at_write its.write its.stamp writes_stand) core
           stamp_unwatched
-          (λ later other bases_then same. stands_kept g r stamp_left j at_stamp later core other same (stamp_stands later core has_stamp))
+          (λ later other bases_then same. stands_kept g r stamp_left j at_stamp later core other stamp_unwatched same (stamp_stands later core has_stamp))
           i.target its.writes value last bases' in_r0

@@ -16,6 +16,7 @@ use Rattle.xr_simulation.proofs.ItemCode.Jumps.{jumps_lead}
 use Rattle.xr_simulation.proofs.Relation.Sides.{FirstIsSided}
 use Rattle.xr_simulation.proofs.ItemCode.Statements.{statement_leads}
 use Rattle.xr_simulation.proofs.ItemCode.Fixed.{fixed_leads}
+use Rattle.xr_simulation.proofs.RelyGuarantee.Selects.{select_arrived}
 use Rattle.xr_simulation.proofs.ItemCode.Stamps.{stamped_leads}
 use Rattle.xr_simulation.proofs.ItemCode.Stores.{stored_leads}
 
@@ -90,7 +91,8 @@ module _ (g : Setting) (r : Runner) (laid : IsLaidOut g r) (core : r.core < 4) w
   rest_leads (stamps (resource.Chan c) place v ∷ rest) j z h sized own sided is = absurd h.stands.1.stands
   rest_leads (awaits c pos ∷ rest) j z h sized own sided is = absurd h.stands.1.stands
   rest_leads (transaction_end c is_master pos ∷ rest) j z h sized own sided is = absurd h.stands.1.stands
-  rest_leads (chooses choices otherwise ∷ rest) j z h sized own sided is = absurd h.stands.1.stands
+  rest_leads (chooses choices otherwise ∷ rest) j z h sized own sided is =
+      (0, j, omega arith, select_arrived g r choices otherwise rest j z h is)
   rest_leads (fixed i v counter ∷ rest) j z h sized own sided is = (
     cost g r,
     j,

@@ -99,13 +99,13 @@ module _ (g : Setting) (r : Runner) where
       at_select : ThreadAtSelect (home g r) y.core (resources_here g r) r.thread thread s h.choices h.otherwise
       at_select = record {
         moment = moment;
-        armed = h.armed;
+        armed = h.stands.armed;
         stands = λ n c listed. resource_stands n c listed c.input.resource refl
             (choice_each (CountedInputFits g r) (AllFit g r) h.choices n c listed h.fits.0.0).0.0.from;
         here = h.here;
         running = refl;
         takes_events = refl;
-        code = h.code;
+        code = h.stands.code;
       }
 
       -- a case
@@ -122,7 +122,7 @@ module _ (g : Setting) (r : Runner) where
 
         at_code : CaseAt g r c.input.resource c.input (body_items c.body h.rest) (j + 1) (vector_of y.core.events res)
         at_code = subst (λ x. CaseAt g r c.input.resource c.input (body_items c.body h.rest) (j + 1) (vector_of y.core.events x))
-            (sym k.resource) (h.at_cases n c listed)
+            (sym k.resource) (h.stands.at_cases n c listed)
 
         stands : (jumps : ℕ) × (jumps ≤ j + 1) × IsPlacedAt g r items jumps (vector_of y.core.events res) h.regs left
         stands = case_stands s c.input c.input.resource (body_items c.body h.rest) (j + 1) (vector_of y.core.events res) h.regs left k.latched
@@ -156,7 +156,7 @@ module _ (g : Setting) (r : Runner) where
           both_pass g r h.has h.no_hand j at_code.1 at_code.2 (body_items body h.rest) None passes (default r.branch) own_default k.action
         where
           at_code : DefaultAt g r (Some body) h.rest (j + 1) (h.pc + 1)
-          at_code = subst (λ o. DefaultAt g r o h.rest (j + 1) (h.pc + 1)) is h.at_default
+          at_code = subst (λ o. DefaultAt g r o h.rest (j + 1) (h.pc + 1)) is h.stands.at_default
 
           passes : Passes g r at_code.1 y (body_items body h.rest) None
           passes = record {

@@ -11,6 +11,7 @@ use Rattle.xr_simulation.proofs.ItemCode.Outputs.{output_leads}
 use Rattle.xr_simulation.proofs.ItemCode.ParOpens.{par_leads}
 use Rattle.xr_simulation.proofs.ItemCode.Assignments.{set_leads}
 use Rattle.xr_simulation.proofs.ItemCode.Inputs.{input_leads}
+use Rattle.xr_simulation.proofs.ItemCode.SelectOpens.{select_leads}
 use Rattle.xr_simulation.proofs.ItemCode.Tests.{if_leads, loop_leads}
 use Rattle.xr_simulation.proofs.ItemCode.Zeros.{zero_leads}
 
@@ -25,5 +26,5 @@ statement_leads g r core (kernel.exit n) rest own = exit_item_leads g r n
 statement_leads g r core (kernel.block n a) rest own = absurd own
 statement_leads g r core (kernel.par bs) rest own = par_leads g r core bs own
 statement_leads g r core (kernel.input i) rest own = input_leads g r i
-statement_leads g r core (kernel.select cases otherwise pos) rest own = λ behind exits pc pc' j z regs laid piece. absurd piece
+statement_leads g r core (kernel.select cases otherwise pos) rest own = select_leads g r cases otherwise pos
 statement_leads g r core (kernel.transaction c is_master ss start close) rest own = λ behind exits pc pc' j z regs laid piece. absurd piece

@@ -61,7 +61,7 @@ module _ (g : Setting) (r : Runner) (v : ℕ) (laid : IsLaidOut g r) (is : IsCha
             as_many = length-set x.core.threads r.thread new;
             words = λ n not_mine. get_set_other x.core.words (address_at from k / 4) n 0
                 (λ e. safe g r v laid is (k + 1) is_k n not_mine k (omega arith) e);
-            sizes = words_sized x.core left (length-set x.core.words (address_at from k / 4) 0) refl refl;
+            sizes = words_sized x.core left (length-set x.core.words (address_at from k / 4) 0) refl refl refl;
             resources = others_same _ _ _ _ refl refl refl;
           };
           roots = refl;

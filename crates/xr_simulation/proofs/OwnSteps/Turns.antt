@@ -69,7 +69,7 @@ module _ (g : Setting) (r : Runner) where
           others = λ u ne not_held. get_set_other y.core.threads r.thread u th' ne;
           as_many = length-set y.core.threads r.thread th';
           words = made.others;
-          sizes = words_sized y.core left made.size refl refl;
+          sizes = words_sized y.core left made.size refl refl refl;
           resources = others_same _ _ _ _ refl refl refl;
         };
         roots = refl;

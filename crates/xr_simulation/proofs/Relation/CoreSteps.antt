@@ -33,14 +33,16 @@ use Rattle.xr_simulation.proofs.Relation.Moments.{Moment, ThreadAt}
 use Rattle.xr_simulation.proofs.Start.PlainRuns.{plain_behind}
 use Rattle.xr_simulation.proofs.Relation.Reserves.{laws_behind}
 use Rattle.xr_simulation.proofs.Par.Rooms.{spare_for}
+use Rattle.xr_simulation.proofs.Relation.Sizes.{ends_sized}
 use Rattle.xr_simulation.proofs.Relation.Lasting.{clock_at, core_at, runner_still, told_by}
 use Rattle.xr_simulation.proofs.OwnSteps.Branch.{Crew, Works, crew_of, works_of}
 use Rattle.xl_expr.proofs.ResourceParts.{others_keep, own_same, own_then}
 use Rattle.xl_expr.specs.ResourceParts.{OtherPartsStay}
 
--- another core is what it was but for its channel ends
+-- another core is what it was but for its channel ends, which are as many
 pub record IsSameButEnds (e f : CoreState) : Type 0 where
   pub is : f ≡ record e { ends = f.ends }
+  pub as_many : length f.ends ≡ length e.ends
 
 -- what the machine is behind an event, or where there was none: core c was a and is b, and of the others no more has changed than their
 -- channel ends; what is on links is told elsewhere
@@ -55,7 +57,7 @@ pub record HasStepped (w w' : Watched) (c : ℕ) (a b : CoreState) : Type 0 wher
 -- another core that has stayed
 pub other_same : (w w' : Watched) (d : ℕ) (e : CoreState) → slice_get w'.machine.cores d ≡ slice_get w.machine.cores d →
     slice_get w.machine.cores d ≡ Some e → (f : CoreState) × (slice_get w'.machine.cores d ≡ Some f) × IsSameButEnds e f
-other_same w w' d e same at = (e, same ∙ at, record { is = refl })
+other_same w w' d e same at = (e, same ∙ at, record { is = refl; as_many = refl })
 
 -- Of some threads of the core it is shown how they stand; the others have the roles that they had, and what their runners stand on is kept.
 pub record IsNextStanding
@@ -120,7 +122,7 @@ kept_ends g s z e f y hand same k = subst (λ b. Rely g s z (record { core = b; 
   thread = k.thread;
   words = k.words;
   resources = own_then (IsMine g s) s.thread _ _ _ k.resources (own_same _ _ _ _ refl refl refl);
-  sizes = k.sizes;
+  sizes = ends_sized e f.ends same.as_many ∙ k.sizes;
   branch = k.branch;
   parents = k.parents;
   store = k.store;
@@ -199,7 +201,7 @@ moves g may_rest may_rest' who who' w w' x c a b moved piece y st step next =
           ⊎_elim
           (λ (h : d ≡ c). ap sizes_of (sym (is_b d e h at)) ∙ step.sizes ∙ st.sizes c a step.was ∙ ap
           (λ k. sizes_in (parts_in g.image.cores k)) (sym h))
-          (λ (ne : d ≢ c). let o = far d e ne at in ap sizes_of o.2.is ∙ st.sizes d o.0 o.1)
+          (λ (ne : d ≢ c). let o = far d e ne at in ap sizes_of o.2.is ∙ ends_sized o.0 e.ends o.2.as_many ∙ st.sizes d o.0 o.1)
           (cases_eq d c);
       wired = next.wired;
       alone = λ d u s hand transfer is its.

@@ -1,6 +1,6 @@
--- A thread's turn leaves a core as many words, timers and watches as it had.
-use Rattle.std.proofs.Common.{◌≡◌, ℕ, suc, Bool, true, false, List, [], ◌∷◌, Option, Some, None, length, refl, sym, ap, ◌∙◌}
-use Rattle.std.specs.Prelude.{not, nat_eq, slice_get}
+-- A thread's turn leaves a core as many words, timers, channel ends and watches as it had.
+use Rattle.std.proofs.Common.{◌≡◌, ℕ, suc, ◌-◌, ◌%◌, ◌^◌, Bool, true, false, List, [], ◌∷◌, Option, Some, None, length, refl, sym, ap, ◌∙◌}
+use Rattle.std.specs.Prelude.{drop, not, nat_eq, nat_le, slice_get, slice_set}
 use Rattle.std.proofs.lemmas.List.{length-replicate, length-set}
 use Rattle.xs_instr.specs.declared.image.CoreImage.{CoreImage}
 use Rattle.xs_instr.specs.declared.image.Home.{Home}
@@ -10,9 +10,12 @@ use Rattle.xs_instr.specs.declared.instr.GetKind.TheVariants.{Sync as GetSync, L
 use Rattle.xs_instr.specs.declared.instr.Instr.{Instr}
 use Rattle.xs_instr.specs.declared.instr.Instr.TheVariants.{Divs, Rems, Divu, Remu, Ecallf, Ecallt, Ldwdp, Stwdp, Ldwsp, Stwsp, Ldw, Stw, Brft, Brff, Brbt, Brbf, Entsp, Retsp, Getr, Freer, Getst, Tinitpc, Tinitdp, Tinitsp, Msync, Ssync, Mjoin, Freet, Out, Outt, Outct, In, Int, Chkct, Setc, Setd, Setpt, Getts, Setv, Eeu, Edu, Clre, Waiteu, Setsr, Clrsr}
 use Rattle.xs_instr.specs.declared.instr.Reg.{Reg}
+use Rattle.xs_instr.specs.declared.state.ChanEnd.{ChanEnd}
 use Rattle.xs_instr.specs.declared.state.CoreState.{CoreState}
 use Rattle.xs_instr.specs.declared.state.Events.{Events}
 use Rattle.xs_instr.specs.declared.state.Mode.{Mode}
+use Rattle.xs_instr.specs.declared.state.Moved.{Moved}
+use Rattle.xs_instr.specs.declared.state.Token.{Token}
 use Rattle.xs_instr.specs.declared.state.Mode.TheVariants.{Unused, Waiting, Running, Trapped}
 use Rattle.xs_instr.specs.declared.state.Res.{Res}
 use Rattle.xs_instr.specs.declared.state.Res.TheVariants.{Port as ResPort, Timer as ResTimer, End as ResEnd}
@@ -22,21 +25,25 @@ use Rattle.xs_instr.specs.declared.state.Timer.{Timer}
 use Rattle.xs_instr.specs.declared.state.Watch.{Watch}
 use Rattle.xs_instr.specs.Did.{Did, Made, Paused, Traps, Idle, makes, map_did}
 use Rattle.xs_instr.specs.Events.{cleared, cleared_in, disable_row, enable_row, latched, on_evented, owner_at, there, vector_at, vector_row, watch_of, watch_put}
-use Rattle.xs_instr.specs.Machine.{boot_core, boot_timer}
+use Rattle.xs_instr.specs.Ends.{Checked, Control, Gone, NotThere, NotYet, Other, Passed, Peer, Taken, Word, byte_in, check, check_in, control_token, credits_to, data_token, goes_by, ins_byte, ins_control, ins_word, outs, outs_by, peer_of, take_byte, take_word, tokens_go, tokens_taken, tokens_to, word_in, word_tokens}
+use Rattle.xs_instr.specs.Machine.{boot_core, boot_end, boot_timer}
 use Rattle.xs_instr.specs.Memory.{address_at, word_at}
 use Rattle.xs_instr.specs.Registers.{reg_get}
-use Rattle.xs_instr.specs.Resources.{Named, APort, ATimer, AnEnd, ASync, ALock, usable}
-use Rattle.xs_instr.specs.Rows.{Local, reg, sets_where, passes_by, loads, stores, jumps_by, enters_where, enters_by, returns_where, returns_by, local_row, local_of, put_local, out_row, in_row, cond_row, data_row, free_row, get_row, wait_row, end_row, names, row, goes_with, gets_with, put_events, put_timers}
+use Rattle.xs_instr.specs.Resources.{Named, APort, ATimer, AnEnd, ASync, ALock, on_end, usable}
+use Rattle.xs_instr.specs.Rows.{Local, reg, sets_where, passes_by, loads, stores, jumps_by, enters_where, enters_by, returns_where, returns_by, local_row, local_of, put_local, out_row, in_row, cond_row, data_row, free_row, get_row, wait_row, end_row, names, row, goes_with, gets_with, put_ends, put_events, put_timers}
 use Rattle.xs_instr.specs.Slot.{fetched, event_or_row, instr_at, pick_where, takes_events, turn_of, turn_at, slot}
 use Rattle.xs_instr.specs.Timers.{clock_by, clock_latched, clock_read, is_timer_cond, timer_cond_by, timer_cond_set, timer_data_set, timer_latched_at, timer_meets}
-use Rattle.xr_simulation.specs.Sizes.{Sizes, sizes_in, sizes_of}
+use Rattle.xr_channels.proofs.Tokens.Credits.{row_length}
+use Rattle.xr_simulation.specs.Sizes.{Sizes, most_watches, sizes_in, sizes_of}
 use Rattle.xw_words.specs.Words.{div_u, rem_u, div_s, rem_s}
 
 -- other words, as many, and the same of all else
-pub words_sized : (a b : CoreState) → length b.words ≡ length a.words → b.timers ≡ a.timers → b.events ≡ a.events → sizes_of b ≡ sizes_of a
-words_sized a b words timers events = λ i. record {
+pub words_sized : (a b : CoreState) → length b.words ≡ length a.words → b.timers ≡ a.timers → b.ends ≡ a.ends → b.events ≡ a.events →
+    sizes_of b ≡ sizes_of a
+words_sized a b words timers ends events = λ i. record {
   words = words i;
   timers = length (timers i);
+  ends = length (ends i);
   port_watches = length ((events i).ports);
   timer_watches = length ((events i).timers);
   end_watches = length ((events i).ends);
@@ -47,9 +54,10 @@ pub sizes_begin : (parts : CoreImage) → sizes_of (boot_core parts) ≡ sizes_i
 sizes_begin parts = λ i. record {
   words = length-replicate {A = ℕ} parts.words 0 i;
   timers = length-replicate {A = Timer} parts.timers boot_timer i;
-  port_watches = 32;
-  timer_watches = 32;
-  end_watches = 32;
+  ends = length-replicate {A = ChanEnd} parts.ends boot_end i;
+  port_watches = most_watches;
+  timer_watches = most_watches;
+  end_watches = most_watches;
 }
 
 -- what a core has behind a turn
@@ -90,6 +98,7 @@ timers_sized : (core : CoreState) (timers : List Timer) → length timers ≡ le
 timers_sized core timers same = λ i. record {
   words = length core.words;
   timers = same i;
+  ends = length core.ends;
   port_watches = length core.events.ports;
   timer_watches = length core.events.timers;
   end_watches = length core.events.ends;
@@ -124,6 +133,76 @@ module _ (clock : ℕ) (timers : List Timer) (n : ℕ) where
   latched_sized None = refl
   latched_sized (Some timer) = length-set timers n (record timer { latch = Some clock })
 
+-- So are channel ends, whatever a transfer moves.
+
+pub ends_sized : (core : CoreState) (ends : List ChanEnd) → length ends ≡ length core.ends → sizes_of (put_ends core ends) ≡ sizes_of core
+ends_sized core ends same = λ i. record {
+  words = length core.words;
+  timers = length core.timers;
+  ends = same i;
+  port_watches = length core.events.ports;
+  timer_watches = length core.events.timers;
+  end_watches = length core.events.ends;
+}
+
+module _ (ends : List ChanEnd) where
+  -- what went left as many
+  abbrev GoneSized : Gone → Type 0
+  GoneSized gone = length gone.ends ≡ length ends
+
+  gone_sized : (e : ℕ) (end : ChanEnd) (to clock : ℕ) (ms : List Moved) (b : Bool) → GoneSized (goes_by (slice_set ends e end) to clock ms b)
+  gone_sized e end to clock ms true = row_length ends e end ms
+  gone_sized e end to clock ms false = length-set ends e end
+
+  -- a row of an end
+  module _ (home : Home) (clock e : ℕ) (end : ChanEnd) where
+    abbrev peer : Peer
+    peer = peer_of home.pairs home.number e
+
+    abbrev sent : List Token → Gone
+    sent ks = tokens_go home clock ends e end ks peer
+
+    abbrev taken : (n : ℕ) → Gone
+    taken n = tokens_taken home clock ends e end n peer
+
+    sent_sized : (ks : List Token) → GoneSized (sent ks)
+    sent_sized ks =
+        gone_sized e (record end { credits = end.credits - length ks }) peer.core clock (tokens_to peer.end ks) (nat_eq peer.core home.number)
+
+    taken_sized : (n : ℕ) → GoneSized (taken n)
+    taken_sized n =
+        gone_sized e (record end { tokens = drop n end.tokens }) peer.core clock (credits_to peer.end n) (nat_eq peer.core home.number)
+
+  outs_sized : (gone : Gone) (b : Bool) → GoneSized gone → IfMade (λ left. length left ≡ length ends) (outs_by gone b)
+  outs_sized gone true h = h
+  outs_sized gone false h = tt
+
+  word_sized : (home : Home) (gone : Gone) (taken : Taken) → GoneSized gone →
+      IfMade (λ given. length given.left ≡ length ends) (word_in home gone taken)
+  word_sized home gone (Word v) h = h
+  word_sized home gone (Control c) h = tt
+  word_sized home gone NotYet h = tt
+
+  byte_sized : (gone : Gone) (taken : Taken) → GoneSized gone → IfMade (λ given. length given.left ≡ length ends) (byte_in gone taken)
+  byte_sized gone (Word v) h = h
+  byte_sized gone (Control c) h = tt
+  byte_sized gone NotYet h = tt
+
+  check_sized : (gone : Gone) (checked : Checked) → GoneSized gone → IfMade (λ left. length left ≡ length ends) (check_in gone checked)
+  check_sized gone Passed h = h
+  check_sized gone (Other k) h = tt
+  check_sized gone NotThere h = tt
+
+-- of an end that is there
+on_end_sized : {B : Type 0} (core : CoreState) (P : B → Type 0) (go : ℕ → ChanEnd → Did B) → ((e : ℕ) (end : ChanEnd) → IfMade P (go e end)) →
+    (x : Named) → IfMade P (on_end core go x)
+on_end_sized core P go h (AnEnd e) = by (slice_get core.ends e)
+  where
+    by : (o : Option ChanEnd) → IfMade P (usable (go e) o)
+    by None = tt
+    by (Some end) = h e end
+on_end_sized core P go h _ = tt
+
 -- And so are watches.
 
 record AreAsMany (old new : Events) : Type 0 where
@@ -135,6 +214,7 @@ events_sized : (core : CoreState) (events : Events) → AreAsMany core.events ev
 events_sized core events same = λ i. record {
   words = length core.words;
   timers = length core.timers;
+  ends = length core.ends;
   port_watches = same.ports i;
   timer_watches = same.timers i;
   end_watches = same.ends i;
@@ -237,15 +317,51 @@ module _ (own : Local) where
 
 told_own : (core : CoreState) (t : ℕ) (thread : Thread) (did : Did Local) → own_after (local_of core thread) did ≡ length core.words →
     sizes_after core (map_did (put_local core t thread) did) ≡ sizes_of core
-told_own core t thread (Made left made sent) h = words_sized core (put_local core t thread left) h refl refl
+told_own core t thread (Made left made sent) h = words_sized core (put_local core t thread left) h refl refl refl
 told_own core t thread Paused h = refl
 told_own core t thread (Traps kind) h = refl
 told_own core t thread Idle h = refl
 
 module _ (home : Home) (core : CoreState) (t : ℕ) (thread : Thread) where
+  -- an end is written to
+  of_sent : (ks : List Token) (x : Named) →
+      sizes_after core (map_did (goes_with put_ends core t thread) (on_end core (outs home core.clock ks core.ends) x)) ≡ sizes_of core
+  of_sent ks x =
+      told_if core (goes_with put_ends core t thread) (λ left. length left ≡ length core.ends) _ (ends_sized core)
+      (on_end_sized core (λ left. length left ≡ length core.ends) (outs home core.clock ks core.ends)
+      (λ e end. outs_sized core.ends (sent core.ends home core.clock e end ks) (nat_le (length ks) end.credits)
+      (sent_sized core.ends home core.clock e end ks)) x)
+
+  -- or read
+  of_word : (d : Reg) (x : Named) →
+      sizes_after core (map_did (gets_with put_ends core t thread d) (on_end core (ins_word home core.clock core.ends) x)) ≡ sizes_of core
+  of_word d x =
+      told_if core (gets_with put_ends core t thread d) (λ given. length given.left ≡ length core.ends) _
+      (λ given. ends_sized core given.left)
+      (on_end_sized core (λ given. length given.left ≡ length core.ends) (ins_word home core.clock core.ends)
+      (λ e end. word_sized core.ends home (taken core.ends home core.clock e end 4) (take_word end.tokens)
+      (taken_sized core.ends home core.clock e end 4)) x)
+
+  of_byte : (d : Reg) (x : Named) →
+      sizes_after core (map_did (gets_with put_ends core t thread d) (on_end core (ins_byte home core.clock core.ends) x)) ≡ sizes_of core
+  of_byte d x =
+      told_if core (gets_with put_ends core t thread d) (λ given. length given.left ≡ length core.ends) _
+      (λ given. ends_sized core given.left)
+      (on_end_sized core (λ given. length given.left ≡ length core.ends) (ins_byte home core.clock core.ends)
+      (λ e end. byte_sized core.ends (taken core.ends home core.clock e end 1) (take_byte end.tokens)
+      (taken_sized core.ends home core.clock e end 1)) x)
+
+  of_check : (n : ℕ) (x : Named) →
+      sizes_after core (map_did (goes_with put_ends core t thread) (on_end core (ins_control home core.clock n core.ends) x)) ≡ sizes_of core
+  of_check n x =
+      told_if core (goes_with put_ends core t thread) (λ left. length left ≡ length core.ends) _ (ends_sized core)
+      (on_end_sized core (λ left. length left ≡ length core.ends) (ins_control home core.clock n core.ends)
+      (λ e end. check_sized core.ends (taken core.ends home core.clock e end 1) (check end.tokens n)
+      (taken_sized core.ends home core.clock e end 1)) x)
+
   of_out : (v : ℕ) (x : Named) → sizes_after core (out_row home core t thread v x) ≡ sizes_of core
   of_out v (APort p) = told_sized core _ _ (λ a. refl)
-  of_out v (AnEnd e) = told_sized core _ _ (λ a. refl)
+  of_out v (AnEnd e) = of_sent (word_tokens v) (AnEnd e)
   of_out v (ALock l) = told_sized core _ _ (λ a. refl)
   of_out v _ = refl
 
@@ -255,7 +371,7 @@ module _ (home : Home) (core : CoreState) (t : ℕ) (thread : Thread) where
       told_if core (gets_with put_timers core t thread d) (λ given. length given.left ≡ length core.timers) _
       (λ given. timers_sized core given.left)
       (read_sized core.clock core.timers n (slice_get core.timers n))
-  of_in d v (AnEnd e) = told_sized core _ _ (λ a. refl)
+  of_in d v (AnEnd e) = of_word d (AnEnd e)
   of_in d v (ALock l) = told_sized core _ _ (λ a. refl)
   of_in d v _ = refl
 
@@ -322,10 +438,10 @@ module _ (home : Home) (core : CoreState) (t : ℕ) (thread : Thread) where
   of_row (Tinitsp x s) = told_sized core _ _ (λ a. refl)
   of_row (Msync r) = told_sized core _ _ (λ a. refl)
   of_row (Mjoin r) = told_sized core _ _ (λ a. refl)
-  of_row (Outt r s) = told_sized core _ _ (λ a. refl)
-  of_row (Outct r n) = told_sized core _ _ (λ a. refl)
-  of_row (Int d r) = told_sized core _ _ (λ a. refl)
-  of_row (Chkct r n) = told_sized core _ _ (λ a. refl)
+  of_row (Outt r s) = of_sent (data_token (reg_get thread.regs s % 2 ^ 8) ∷ []) (names home thread r)
+  of_row (Outct r n) = of_sent (control_token n ∷ []) (names home thread r)
+  of_row (Int d r) = of_byte d (names home thread r)
+  of_row (Chkct r n) = of_check n (names home thread r)
   of_row (Setpt r s) = told_sized core _ _ (λ a. refl)
   of_row (Getts d r) = told_sized core _ _ (λ a. refl)
   of_row (Setv r k) = of_events (vector_row core.events k) (λ res. vector_many core.events res k (watch_of core.events res))

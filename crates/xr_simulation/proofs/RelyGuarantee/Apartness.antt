@@ -214,8 +214,8 @@ module _ (g : Setting) (who : Roles) (x : World) (lawful : Lawful g.program x) (
         let one = lines.wired.once line.0 (pair_of g.program p) side line'.0 (pair_of g.program q) side' (lines.line line.0 p line.1)
         (lines.line line'.0 q line'.1) there in
         let channel : p ≡ q = same_Some p q (sym line.1 ∙ ap (slice_get (two_sided g.program)) one.0 ∙ line'.1) in
-        own_sides c t c t' r s hand other e f (λ k. differ k.1) works works' p side is.channel.known is.mine
-        (ap s.footprint.channels channel ∙ is'.mine) is.stands_in
+        own_sides c t c t' r s hand other e f (λ k. differ k.1) works works' p side is.channel.known is.channel.mine
+        (ap s.footprint.channels channel ∙ is'.channel.mine) is.stands_in
         (ap (λ k. slice_index_or s.sides k None) channel ∙ is'.stands_in ∙ ap Some (sym one.1))
 
     resources_apart : (res : Res) → IsMine g s res → IsMine g r res → ⊥

@@ -20,11 +20,12 @@ use Rattle.xc_kernel.specs.Eval.{words_of}
 use Rattle.xl_expr.proofs.Lists.{get_set_same, get_set_other, room_kept}
 use Rattle.xl_expr.proofs.ResourceParts.{others_fewer, others_same, own_fewer, part_same, port_same}
 use Rattle.xr_simulation.specs.Runners.{IsMine, Setting, Runner, IsPort, IsTimer, MayChange, of_stack, home, is_among_words, is_word_among, places, port_place, relied, timer_place}
-use Rattle.xr_simulation.specs.Sizes.{Sizes}
+use Rattle.xr_simulation.specs.Sizes.{Sizes, sizes_of}
 use Rattle.xr_simulation.specs.ThreadViews.{ThreadView, Rely, IsSilentStep, SameUse, StillRuns, after, keeps, running, LeadsIn}
 use Rattle.xr_simulation.specs.NextStep.{IsAt}
 use Rattle.xr_simulation.proofs.Relation.PortDeclarations.{declared_there, same_declared}
 use Rattle.xr_simulation.proofs.Relation.Sizes.{same_sizes}
+use Rattle.xl_expr.specs.Leads.{Leads}
 use Rattle.xl_expr.specs.PartSteps.{KeptParts, PartsStep, WithinParts}
 use Rattle.xl_expr.specs.ResourceParts.{resource_state, port_alone, timer_alone}
 
@@ -277,22 +278,37 @@ module _ (g : Setting) (r : Runner) where
         on = (parts_silent y b h.on step).on;
       }
 
-      -- from any view of the way
-      parts_on_the_way : (Q : CoreState → Type 0) (n : ℕ) (z y : ThreadView) → Since leaves (apart_from mine) z y →
-          WithinParts (home g r) (relied g r) leaves mine r.thread Q n y.core →
-          LeadsIn g r (λ x. Q x.core × Since leaves (apart_from mine) z x) n y
-      parts_on_the_way Q zero z y h way = (way, h)
-      parts_on_the_way Q (suc n) z y h way =
-          ⊎_elim
-          (λ (here : Q y.core). inl (here, h))
-          (λ on. inr (λ x k.
-          let s = on x.core (parts_kept mine own k) in
-          let h' = since_kept leaves (apart_from mine) h k in
-          (after g r x s.0, parts_silent x s.0 h'.on s.1, parts_on_the_way Q n z (after g r x s.0) (parts_since z x s.0 h' s.1) s.2)))
-          way
+      -- From any view of the way, where the rely gives what its steps rely on.
+      module _ (z : ThreadView) (Keeps : CoreState → CoreState → Type 0)
+          (keeps : (y x : ThreadView) → sizes_of x.core ≡ sizes_of z.core → Since leaves (apart_from mine) z x → Rely g r y x →
+          Keeps y.core x.core) where
+        on_relied_way : (Q : CoreState → Type 0) (n : ℕ) (y : ThreadView) → sizes_of y.core ≡ sizes_of z.core →
+            Since leaves (apart_from mine) z y → Leads Keeps (PartsStep (home g r) leaves mine r.thread) Q n y.core →
+            LeadsIn g r (λ x. Q x.core × Since leaves (apart_from mine) z x) n y
+        on_relied_way Q zero y sized h way = (way, h)
+        on_relied_way Q (suc n) y sized h way =
+            ⊎_elim
+            (λ (here : Q y.core). inl (here, h))
+            (λ on. inr (λ x k.
+            let sized' : sizes_of x.core ≡ sizes_of z.core = k.sizes ∙ sized in
+            let h' = since_kept leaves (apart_from mine) h k in
+            let s = on x.core (keeps y x sized' h' k) in
+            let silent = parts_silent x s.0 h'.on s.1 in (
+              after g r x s.0,
+              silent,
+              on_relied_way Q n (after g r x s.0) (silent.guarantee.sizes ∙ sized') (parts_since z x s.0 h' s.1) s.2,
+            )))
+            way
 
-      -- the same of steps that may also set some of the runner's resources
+        -- where they lead that may also set some of the runner's resources, the runner comes
+        pub arrives_relied : (Q : CoreState → Type 0) (n : ℕ) → StillRuns g r z.core →
+            Leads Keeps (PartsStep (home g r) leaves mine r.thread) Q n z.core →
+            LeadsIn g r (λ y. Q y.core × Since leaves (apart_from mine) z y) n z
+        arrives_relied Q n on way = on_relied_way Q n z refl (since_now leaves (apart_from mine) z on) way
+
+      -- the same of steps that rely on these resources alone
       pub arrives_with : (Q : CoreState → Type 0) (n : ℕ) (z : ThreadView) → StillRuns g r z.core →
           WithinParts (home g r) (relied g r) leaves mine r.thread Q n z.core →
           LeadsIn g r (λ y. Q y.core × Since leaves (apart_from mine) z y) n z
-      arrives_with Q n z on way = parts_on_the_way Q n z z (since_now leaves (apart_from mine) z on) way
+      arrives_with Q n z on way =
+          arrives_relied z (KeptParts (relied g r) mine r.thread) (λ y x sized since k. parts_kept mine own k) Q n on way

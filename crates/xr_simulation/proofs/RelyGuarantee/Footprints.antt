@@ -220,8 +220,9 @@ module _ (g : Setting) (r s : Runner) (same : s.core ≡ r.core) (block : s.bloc
   some_target_here None h k = tt
   some_target_here (Some p) h k = target_here p h.0 k
 
-  channel_here : (c : ℕ) → IsChannel g r c → IsChannel g s c
-  channel_here c h = record { known = h.known; used = subst (λ k. is_used_on g.program k c ≡ true) (sym same) h.used }
+  channel_here : (c : ℕ) → IsChannel g r c → s.footprint.channels c ≡ true → IsChannel g s c
+  channel_here c h mine =
+      record { mine = mine; known = h.known; used = subst (λ k. is_used_on g.program k c ≡ true) (sym same) h.used }
 
   resource_here : (o : KRes) → PutsOutAt g r o → AreHad (λ th. by_resource th o) → PutsOutAt g s o
   resource_here (Port p) h k = record {
@@ -230,7 +231,7 @@ module _ (g : Setting) (r s : Runner) (same : s.core ≡ r.core) (block : s.bloc
     sends = h.sends;
   }
   resource_here (Timer t) h k = tt
-  resource_here (Chan c) h k = channel_here c h
+  resource_here (Chan c) h k = channel_here c h (k (channel c) (same_number c))
 
   source_here : (o : KRes) → TakesInAt g r o → AreHad (λ th. by_resource th o) → TakesInAt g s o
   source_here (Port p) h k = record {
@@ -242,7 +243,7 @@ module _ (g : Setting) (r s : Runner) (same : s.core ≡ r.core) (block : s.bloc
     listed = h.listed;
     is = record { mine = k (timer t) (same_number t); known = h.is.known; core = h.is.core ∙ sym same };
   }
-  source_here (Chan c) h k = channel_here c h
+  source_here (Chan c) h k = channel_here c h (k (channel c) (same_number c))
 
   -- what is asked for doesn't depend on the runner
   asks_here : (o : KRes) (time : Option kernel.Expression) (condition : Option kernel.Condition) → AsksRightly g r o time condition →
@@ -373,7 +374,7 @@ module _ (g : Setting) (r s : Runner) (same : s.core ≡ r.core) (block : s.bloc
     h.2,
   )
   item_here (mark n) h k = tt
-  item_here (awaits c pos) h k = channel_here c h
+  item_here (awaits c pos) h k = channel_here c h (k (channel c) (same_number c))
   item_here (transaction_end c is_master pos) h k = tt
   item_here (chooses choices otherwise) h k =
       (choices_here choices h.0 (λ th u. k th (or_left _ _ u)), some_body_here otherwise h.1 (λ th u. k th (or_right (by_choices th choices) _ u)))

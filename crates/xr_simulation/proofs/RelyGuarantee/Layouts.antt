@@ -25,7 +25,7 @@ use Rattle.xr_simulation.specs.Transfers.{Transfer}
 use Rattle.xr_simulation.specs.NextStep.{GivesBack, HasBases, HoldsStore, Has, InTransfer, IsAt, PortsStand, Rest, Runs, StableNextStep}
 use Rattle.xr_simulation.proofs.RelyGuarantee.ThreadViews.{leads_in_stable, turns_stable}
 use Rattle.xr_simulation.proofs.RelyGuarantee.Arrival.{Since, among_words, any_part, ports_kept, ports_since, stack_relied}
-use Rattle.xr_simulation.proofs.RelyGuarantee.Stands.{parts_own, stands_kept}
+use Rattle.xr_simulation.proofs.RelyGuarantee.Stands.{stands_last}
 
 -- a variable of a plan is one of the list
 pub planned_within : (vars : List (Option VarPlan)) (v : ℕ) (found : VarPlan) → var_in vars v ≡ Some found → v < length vars
@@ -121,8 +121,7 @@ module _ (g : Setting) (r : Runner) where
     regs = h.regs;
     here = k.thread ∙ h.here;
     bases = h.bases;
-    stands = stands_kept g r items j h.pc h.regs z.core y.core (λ part on. k.resources.parts part (parts_own g r items part h.fits on))
-        h.stands;
+    stands = stands_last g r items j h.pc h.regs z.core y.core h.fits k.resources h.stands;
     fits = h.fits;
     has = has_kept items z y k h.has;
   }

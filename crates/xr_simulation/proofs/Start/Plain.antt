@@ -4,7 +4,7 @@ use Rattle.std.proofs.lemmas.Option.{same_Some}
 use Rattle.xc_kernel.specs.declared.statement.KRes.{KRes}
 use Rattle.xc_kernel.specs.declared.statement.KRes.TheVariants.{Port, Timer, Chan}
 use Rattle.xc_kernel.specs.Plain as kernel
-use Rattle.xc_invariants.specs.Every.{AllItems, EveryBranches, EveryCondition, EveryExpression, EveryInput, EveryItem, EveryOperands, EveryOutput, EveryPlace, EveryResource, EverySomeExpression, EverySomeTarget, EveryStatement, EveryStatements, EveryTarget}
+use Rattle.xc_invariants.specs.Every.{AllItems, EveryBranches, EveryCases, EveryCondition, EveryDefault, EveryExpression, EveryInput, EveryItem, EveryOperands, EveryOutput, EveryPlace, EveryResource, EverySomeExpression, EverySomeTarget, EveryStatement, EveryStatements, EveryTarget}
 use Rattle.xc_invariants.specs.Rules.{AnyPar, AnyThing}
 use Rattle.xc_invariants.proofs.EveryItem.{every_statements}
 use Rattle.xc_invariants.proofs.Inherited.{all_todo}
@@ -13,7 +13,7 @@ use Rattle.xc_meaning.specs.States.Branches.{Branch}
 use Rattle.xc_meaning.specs.States.Channels.{Side}
 use Rattle.xc_meaning.specs.States.Items.{ends}
 use Rattle.xl_image.specs.Roots.{RootsAreBuilt}
-use Rattle.xl_statements.specs.Built.{AreBuilt, BranchesAreBuilt, IsBuilt}
+use Rattle.xl_statements.specs.Built.{AreBuilt, BranchesAreBuilt, CasesAreBuilt, DefaultIsBuilt, IsBuilt}
 use Rattle.xr_simulation.specs.Plain.{ArePlain, NoTransaction}
 
 -- nothing is asked of what code uses
@@ -70,13 +70,21 @@ mutual
   statement (kernel.loop e a b) h = (expression e, statements a h.0, statements b h.1)
   statement (kernel.block n a) h = statements a h
   statement (kernel.exit n) h = tt
-  statement (kernel.select cs d pos) h = absurd h
+  statement (kernel.select cs d pos) h = (cases cs h.0, some_default d h.1)
   statement (kernel.par bs) h = (tt, branches bs h)
   statement (kernel.transaction c is_master a start close) h = absurd h
 
   statements : (ss : kernel.Statements) → AreBuilt ss → EveryStatements AnyThing AnyPar NoTransaction ss
   statements kernel.no_more h = tt
   statements (kernel.more s ss) h = (statement s h.0, statements ss h.1)
+
+  cases : (cs : kernel.Cases) → CasesAreBuilt cs → EveryCases AnyThing AnyPar NoTransaction cs
+  cases kernel.no_case h = tt
+  cases (kernel.more_cases (kernel.case guard i ss) cs) h = ((some_expression guard, input i, statements ss h.0), cases cs h.1)
+
+  some_default : (d : kernel.Default) → DefaultIsBuilt d → EveryDefault AnyThing AnyPar NoTransaction d
+  some_default kernel.no_default h = tt
+  some_default (kernel.default ss) h = statements ss h
 
   branches : (bs : kernel.Branches) → BranchesAreBuilt bs → EveryBranches AnyThing AnyPar NoTransaction bs
   branches kernel.no_branch h = tt
