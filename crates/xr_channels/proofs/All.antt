@@ -9,5 +9,7 @@ pub mod Pauses
 pub mod NearPauses
 pub mod Arrivals
 pub mod Moves
+pub mod OverLinks
+pub mod SideEnds
 pub mod Begins
 pub mod Example

@@ -2,7 +2,7 @@
 pub mod Views
 pub mod Changes
 pub mod Credits
-pub mod Bounds
+pub mod LinkCredits
 pub mod Lines
 pub mod Lengths
 pub mod Locals

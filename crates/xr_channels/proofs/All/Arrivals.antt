@@ -11,6 +11,7 @@ use Rattle.xs_instr.specs.Machine.{link_of, link_put, came}
 use Rattle.xc_meaning.specs.States.Channels.{Parcel, offer, opening, word, closing, taken, Side, first, second, other_side, Inboxes}
 use Rattle.xr_channels.specs.Phases.{offers, opens, closes, Phase, between, sends_end, awaits_ack, checks_end, sends_ack, was_closed, streams, SideState, side_state, LateBy, AreWords, Path, answers, switches_mode, reads_by, Direction, TransitRel, Question}
 use Rattle.xr_channels.specs.ChannelRel.{QuestionsArrived, ChannelRel}
+pub use Rattle.xr_channels.specs.ChannelSteps.{LateKind, late_offer, late_opening, late_word}
 use Rattle.xr_channels.specs.Channels.{Links, tokens_at, tokens_for, end_of_side, Ghosts, Channels, IsWired}
 use Rattle.xr_channels.proofs.Sides.Late.{puts_first, put_then_comes, comes_first, token_comes}
 use Rattle.xr_channels.proofs.Tokens.Lines.{put_late, come_on}
@@ -21,12 +22,6 @@ use Rattle.xr_channels.proofs.Tokens.Locals.{same_wires}
 use Rattle.xr_channels.proofs.Laws.FreshRows.{trap_fresh, token_fresh, late_fresh}
 use Rattle.xr_channels.proofs.All.Frames.{parcels, boxed, twice}
 use Rattle.xr_channels.proofs.Sides.Updates.{at_spot, stands_now, moved_to, Update, puts, takes_next, goes_next, go_line, come_line, stands_now}
-
--- what a late parcel is, by where its sender stands; the sender is then inside or not
-pub data LateKind (phase : Phase) (inside : Bool) : Parcel → List Parcel → Bool → Type 0 where
-  late_offer : (v : ℕ) → (phase ≡ sends_end v) ⊎ (phase ≡ awaits_ack (offers v)) → inside ≡ false → LateKind phase inside (offer v) [] false
-  late_opening : phase ≡ awaits_ack opens → inside ≡ false → LateKind phase inside opening [] true
-  late_word : (v : ℕ) (rest : List Parcel) → phase ≡ streams → inside ≡ true → LateKind phase inside (word v) rest true
 
 -- of each late parcel, by where its sender stands
 pub late_kind : (phase : Phase) (inside : Bool) (x : Parcel) (rest : List Parcel) → LateBy phase inside (x ∷ rest) → (i : Bool) × LateKind phase inside x rest i

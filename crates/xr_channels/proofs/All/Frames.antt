@@ -9,6 +9,7 @@ use Rattle.xs_instr.specs.Machine.{link_of}
 use Rattle.xc_meaning.specs.States.Channels.{Parcel, Side, first, second, other_side, Inboxes, no_parcels, parcels_at, with_parcels}
 use Rattle.xr_channels.specs.Phases.{SideState, encodes, unsent, ahead, Direction, TransitRel}
 use Rattle.xr_channels.specs.ChannelRel.{ChannelRel}
+pub use Rattle.xr_channels.specs.ChannelSteps.{parcels, boxed}
 use Rattle.xr_channels.specs.Channels.{Links, tokens_at, tokens_for, end_of_side, Ghosts, direction_to, ChannelRelAt, Channels, IsWired}
 use Rattle.xr_channels.proofs.Laws.FreshRows.{AfterSending, stands_flip}
 use Rattle.xr_channels.proofs.Tokens.Views.{same_num}
@@ -50,14 +51,6 @@ with_there b second ps = refl
 pub twice : (side : Side) → other_side (other_side side) ≡ side
 twice first = refl
 twice second = refl
-
--- the parcels at a side of a channel
-abbrev pub parcels : List Inboxes → ℕ → Side → List Parcel
-parcels boxes k side = parcels_at (slice_index_or boxes k no_parcels) side
-
--- an inbox is written
-abbrev pub boxed : List Inboxes → ℕ → Side → List Parcel → List Inboxes
-boxed boxes k side ps = slice_set boxes k (with_parcels (slice_index_or boxes k no_parcels) side ps)
 
 -- the inbox that is written
 pub boxed_here : (boxes : List Inboxes) (k : ℕ) (side : Side) (ps : List Parcel) → k < length boxes → parcels (boxed boxes k side ps) k side ≡ ps

@@ -1,6 +1,6 @@
 -- The rows on an end of a channel whose two ends are on one core, while nothing is on a link: whether the row pauses, goes on or traps,
 -- what parcel stood first, and what then stands between the sides.
-use Rattle.std.proofs.Common.{◌≡◌, ◌<◌, ◌≤◌, ℕ, suc, zero, ◌-◌, Bool, true, false, List, [], ◌∷◌, ◌++◌, length, drop, Some, None, refl, sym, ap, ◌∙◌, subst, arith, eq-eqb}
+use Rattle.std.proofs.Common.{◌≡◌, ◌<◌, ◌≤◌, ℕ, ◌-◌, Bool, true, false, List, [], ◌∷◌, ◌++◌, length, drop, Some, None, refl, sym, ap, ◌∙◌, subst, arith, eq-eqb}
 use Rattle.std.specs.Prelude.{slice_get, slice_set, nat_eq, nat_le}
 use Rattle.std.proofs.lemmas.Bool.{leb-true}
 use Rattle.xs_instr.specs.declared.image.Home.{Home}
@@ -8,7 +8,6 @@ use Rattle.xs_instr.specs.declared.image.Pair.{Pair}
 use Rattle.xs_instr.specs.declared.instr.Reg.{Reg}
 use Rattle.xs_instr.specs.declared.state.ChanEnd.{ChanEnd}
 use Rattle.xs_instr.specs.declared.state.CoreState.{CoreState}
-use Rattle.xs_instr.specs.declared.state.Item.{Item}
 use Rattle.xs_instr.specs.declared.state.Thread.{Thread}
 use Rattle.xs_instr.specs.declared.state.Token.{Token}
 use Rattle.xs_instr.specs.declared.trace.Record.TheVariants.{Com}
@@ -22,7 +21,7 @@ use Rattle.xr_channels.specs.Phases.{END, ACK, OPEN, Question, offers, opens, cl
 use Rattle.xr_channels.specs.Channels.{tokens_in, ends_in, tokens_at, tokens_for, end_of_side, Ghosts, Channels, IsWired}
 use Rattle.xr_channels.specs.Balance.{Balanced, Local}
 use Rattle.xr_channels.proofs.Sides.Found.{is_taken, is_opening, is_closing, is_offer, is_word}
-use Rattle.xr_channels.proofs.Tokens.Views.{Square}
+use Rattle.xr_channels.proofs.Tokens.Views.{no_square}
 use Rattle.xr_channels.proofs.Tokens.Changes.{peer, Changed, near, far}
 use Rattle.xr_channels.proofs.Tokens.Changes as changes
 use Rattle.xr_channels.proofs.Tokens.Credits.{end_there, row_length}
@@ -40,27 +39,6 @@ pub record IsNear (pairs : List Pair) (cores : List CoreState) (k : ℕ) (p : Pa
   pub same_pairs : home.pairs ≡ pairs
   pub at_core : slice_get cores (end_of_side p side).core ≡ Some core
   pub at_end : slice_get core.ends (end_of_side p side).end ≡ Some end
-
--- four empty links out of each of four cores
-pub no_square : Square no_links
-no_square = record { rows = λ a lt. (replicate_4, row a lt, columns) }
-  where
-    replicate_4 : List (List Item)
-    replicate_4 = [] ∷ [] ∷ [] ∷ [] ∷ []
-
-    row : (a : ℕ) → a < 4 → slice_get no_links a ≡ Some replicate_4
-    row zero lt = refl
-    row (suc zero) lt = refl
-    row (suc (suc zero)) lt = refl
-    row (suc (suc (suc zero))) lt = refl
-    row (suc (suc (suc (suc a)))) lt = absurd (omega (arith, lt))
-
-    columns : (b : ℕ) → b < 4 → (items : List Item) × (slice_get replicate_4 b ≡ Some items)
-    columns zero lt = ([], refl)
-    columns (suc zero) lt = ([], refl)
-    columns (suc (suc zero)) lt = ([], refl)
-    columns (suc (suc (suc zero))) lt = ([], refl)
-    columns (suc (suc (suc (suc b)))) lt = absurd (omega (arith, lt))
 
 -- Such an end, and what stands between the sides of all channels: what each of its rows is told of.
 pub record NearEnd : Type 0 where

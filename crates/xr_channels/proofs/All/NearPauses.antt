@@ -3,16 +3,14 @@
 use Rattle.std.proofs.Common.{◌≡◌, ◌<◌, ◌≤◌, ℕ, ◌+◌, Bool, true, false, List, [], ◌∷◌, length, refl, ap, ◌∙◌, subst, arith, inl, inr}
 use Rattle.std.specs.Prelude.{◌⊎◌, slice_get, nat_le}
 use Rattle.std.proofs.lemmas.Bool.{leb-true, leb-false}
-use Rattle.xs_instr.specs.declared.image.Home.{Home}
 use Rattle.xs_instr.specs.declared.image.Pair.{Pair}
-use Rattle.xs_instr.specs.declared.state.ChanEnd.{ChanEnd}
 use Rattle.xs_instr.specs.declared.state.CoreState.{CoreState}
 use Rattle.xs_instr.specs.Ends.{Peer, take_word, NotYet}
 use Rattle.xs_instr.specs.Machine.{no_links}
 use Rattle.xc_meaning.specs.States.Channels.{Parcel, closing, Side, other_side, Inboxes, words_among}
 use Rattle.xr_channels.specs.Phases.{Question, Phase, between, sends_end, awaits_ack, checks_end, sends_ack, was_closed, streams, SideState, side_state, Direction, TransitRel}
-use Rattle.xr_channels.specs.Channels.{ends_in, tokens_in, tokens_for, end_of_side, Ghosts, direction_to, IsWired}
-use Rattle.xr_channels.specs.Balance.{credits_in, credits_at, IsEight, Local}
+use Rattle.xr_channels.specs.Channels.{ends_in, tokens_in, tokens_for, end_of_side, Ghosts, direction_to}
+use Rattle.xr_channels.specs.Balance.{credits_in, credits_at, IsEight}
 use Rattle.xr_channels.proofs.All.Begins.{boot_links}
 use Rattle.xr_channels.proofs.All.Frames.{parcels, twice}
 use Rattle.xr_channels.proofs.Sides.Updates.{at_spot}

@@ -1,16 +1,11 @@
 -- A row of an output or an input, outside transactions and within a core: it never lacks credits, and where it waits for a token and the other
 -- side has sent all, nothing has come.
-use Rattle.std.proofs.Common.{◌≡◌, ℕ, ◌+◌, false, List, [], ◌∷◌, length, Some, refl, sym, ap, ◌∙◌, subst, arith}
+use Rattle.std.proofs.Common.{◌≡◌, ◌+◌, false, List, [], ◌∷◌, length, Some, refl, sym, ap, ◌∙◌, subst, arith}
 use Rattle.std.specs.Prelude.{slice_get, nat_le}
-use Rattle.xs_instr.specs.declared.image.Home.{Home}
-use Rattle.xs_instr.specs.declared.image.Pair.{Pair}
-use Rattle.xs_instr.specs.declared.state.ChanEnd.{ChanEnd}
-use Rattle.xs_instr.specs.declared.state.CoreState.{CoreState}
 use Rattle.xs_instr.specs.Machine.{no_links}
-use Rattle.xc_meaning.specs.States.Channels.{Side, first, second, other_side, Inboxes}
+use Rattle.xc_meaning.specs.States.Channels.{Side, first, second, other_side}
 use Rattle.xr_channels.specs.Phases.{Phase, SideState, side_state, ahead, asked, unread, unsent, Direction, TransitRel}
-use Rattle.xr_channels.specs.Channels.{end_of_side, Ghosts, direction_to, IsWired}
-use Rattle.xr_channels.specs.Balance.{Local}
+use Rattle.xr_channels.specs.Channels.{end_of_side, direction_to}
 use Rattle.xr_channels.proofs.All.Frames.{parcels}
 use Rattle.xr_channels.proofs.Tokens.Lengths.{out_pause_full, outct_pause_full}
 use Rattle.xr_channels.proofs.All.Near.{NearEnd}

@@ -11,21 +11,20 @@ use Rattle.xs_instr.specs.Ends.{Peer, token_at, credit_at}
 use Rattle.xs_instr.specs.Machine.{Machine, link_of, link_put, no_links, boot, came, move_to, move_at}
 use Rattle.xc_meaning.specs.States.Channels.{Side, other_side}
 use Rattle.xr_channels.specs.Channels.{Links, tokens_for, ends_in, end_of_side, IsWired}
+use Rattle.xr_channels.specs.Balance.{IsEight, Balanced}
 use Rattle.xr_channels.specs.CreditsOverLinks.{credits_for, IsEightOverLinks, end_of_item, ComesFrom, AllCome, BalancedOverLinks}
 use Rattle.xr_channels.specs.Laws.{CreditsBegin, CreditsAreKept}
-use Rattle.xr_channels.proofs.Tokens.Views.{IsEnd, Square, same_num, get_put, get_put_other}
+use Rattle.xr_channels.proofs.Tokens.Views.{IsEnd, Square, no_square, same_num, get_put, get_put_other}
 use Rattle.xr_channels.proofs.Tokens.Changes.{peer, token_comes_to, credit_comes}
 use Rattle.xr_channels.proofs.Tokens.Credits.{end_there, row_length, ends_length}
-use Rattle.xr_channels.proofs.Tokens.Bounds.{Sender}
 use Rattle.xr_channels.proofs.All.Begins.{boot_links}
 use Rattle.xr_channels.proofs.All.Frames.{twice}
-use Rattle.xr_channels.proofs.All.Near.{no_square}
 use Rattle.xr_channels.proofs.All.Wired.{valid_wired}
 use Rattle.xr_channels.proofs.Laws.Balances.{balanced_begins}
-use Rattle.xr_channels.proofs.Laws.Deliveries.{token_keeps, credit_keeps}
+use Rattle.xr_channels.proofs.Laws.Deliveries.{Sender, token_keeps, credit_keeps}
 
 -- what comes to a side was sent by the other
-sender : (pairs : List Pair) (a b e : ℕ) → ComesFrom pairs a b e → Sender pairs a b e
+pub sender : (pairs : List Pair) (a b e : ℕ) → ComesFrom pairs a b e → Sender pairs a b e
 sender pairs a b e s = record {
   channel = s.channel;
   pair = s.pair;
@@ -41,7 +40,7 @@ module _ (pairs : List Pair) (wired : IsWired pairs) (cores : List CoreState) (l
   square = record { rows = h.rows }
 
   -- the links are not those from a core to itself
-  no_self : (i : Item) → link_of links a b ≡ i ∷ rest → a ≢ b
+  pub no_self : (i : Item) → link_of links a b ≡ i ∷ rest → a ≢ b
   no_self i is e = let none : i ∷ rest ≡ [] = sym is ∙ ap (λ c. link_of links c b) e ∙ h.selves b in cc
 
   -- what is left on links
@@ -63,16 +62,16 @@ module _ (pairs : List Pair) (wired : IsWired pairs) (cores : List CoreState) (l
 
   module _ (e : ℕ) (s : ComesFrom pairs a b e) where
     -- the end is there
-    is_end : IsEnd core.ends e
+    pub is_end : IsEnd core.ends e
     is_end =
         let size : e < length (ends_in (slice_get cores b)) = subst (λ (q : Peer). q.end < length (ends_in (slice_get cores q.core))) s.to (h.ends s.channel s.pair s.side s.here) in
         end_there core.ends e (subst (λ o. e < length (ends_in o)) at_b size)
 
     -- both cores are among the four
-    from_core : a < 4
+    pub from_core : a < 4
     from_core = subst (λ c. c < 4) s.from (wired.core s.channel s.pair (other_side s.side) s.here)
 
-    to_core : b < 4
+    pub to_core : b < 4
     to_core = subst (λ (q : Peer). q.core < 4) s.to (wired.core s.channel s.pair s.side s.here)
 
     -- each side still has its end
@@ -82,7 +81,8 @@ module _ (pairs : List Pair) (wired : IsWired pairs) (cores : List CoreState) (l
         let size = ends_length cores b e core left is_end.end at_b is_end.there (ap length is ∙ row_length core.ends e now []) (end_of_side p side).core in
         omega (arith, old, size)
 
-  kept : (moved : Moved) → link_of links a b ≡ record { tick = tick; moved = moved } ∷ rest → ComesFrom pairs a b (end_of_item moved) → BalancedOverLinks pairs (slice_set cores b (came core moved)) (link_put links a b rest)
+  -- the law holds once it has come
+  pub kept : (moved : Moved) → link_of links a b ≡ record { tick = tick; moved = moved } ∷ rest → ComesFrom pairs a b (end_of_item moved) → BalancedOverLinks pairs (slice_set cores b (came core moved)) (link_put links a b rest)
   kept (Tok e t) is s =
       let ne = no_self (record { tick = tick; moved = Tok e t }) is in
       let la = from_core e s in
@@ -108,22 +108,25 @@ module _ (pairs : List Pair) (wired : IsWired pairs) (cores : List CoreState) (l
         rows = changes.square.rows;
       }
 
--- at the start nothing is on a link
-pub credits_begin : CreditsBegin
-credits_begin L valid =
-    let start = balanced_begins L valid in record {
-      ends = start.ends;
-      eight = λ k p side at_k. eight_at (end_of_side p side) (end_of_side p (other_side side)) (start.eight k p side at_k);
-      come = λ a b. subst (AllCome L.chans a b) (sym (boot_links a b)) tt;
-      selves = λ c. boot_links c c;
-      rows = no_square.rows;
-    }
+-- with nothing on a link
+pub balanced_over : (pairs : List Pair) (cores : List CoreState) → Balanced pairs cores → BalancedOverLinks pairs cores no_links
+balanced_over pairs cores h = record {
+  ends = h.ends;
+  eight = λ k p side at_k. eight_at (end_of_side p side) (end_of_side p (other_side side)) (h.eight k p side at_k);
+  come = λ a b. subst (AllCome pairs a b) (sym (boot_links a b)) tt;
+  selves = λ c. boot_links c c;
+  rows = no_square.rows;
+}
   where
-    eight_at : (here there : Peer) → Rattle.xr_channels.specs.Balance.IsEight (boot L).cores here there → IsEightOverLinks (boot L).cores no_links here there
+    eight_at : (here there : Peer) → IsEight cores here there → IsEightOverLinks cores no_links here there
     eight_at here there old =
         let out = ap (λ l. length (tokens_for there.end l)) (boot_links here.core there.core) in
         let back = ap (credits_for here.end) (boot_links there.core here.core) in
         omega (arith, old, out, back)
+
+-- as it is at the start
+pub credits_begin : CreditsBegin
+credits_begin L valid = balanced_over L.chans (boot L).cores (balanced_begins L valid)
 
 -- each delivery keeps the law
 pub credits_kept : CreditsAreKept

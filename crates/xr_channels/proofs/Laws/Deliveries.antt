@@ -16,8 +16,16 @@ use Rattle.xr_channels.specs.CreditsOverLinks.{credit_by, credits_for, IsEightOv
 use Rattle.xr_channels.proofs.Tokens.Views.{IsEnd, Square, same_num, num_other, get_put, get_put_other, get_set, get_set_other}
 use Rattle.xr_channels.proofs.Tokens.Changes.{peer, Changed, IsSelfless, token_comes_to, credit_comes}
 use Rattle.xr_channels.proofs.Tokens.Credits.{credits_of_end}
-use Rattle.xr_channels.proofs.Tokens.Bounds.{Sender}
 use Rattle.xr_channels.proofs.All.Frames.{twice}
+
+-- An item on the link from core a to core b is for end e there: it is that of a side whose other side sends, with its end on core a.
+pub record Sender (pairs : List Pair) (a b e : ℕ) : Type 0 where
+  pub channel : ℕ
+  pub pair : Pair
+  pub side : Side
+  pub here : slice_get pairs channel ≡ Some pair
+  pub from : (end_of_side pair side).core ≡ a
+  pub to : end_of_side pair (other_side side) ≡ peer b e
 
 -- the other side tells the side
 one_side : (s t : Side) → other_side s ≡ other_side t → s ≡ t

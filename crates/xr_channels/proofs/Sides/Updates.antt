@@ -8,30 +8,12 @@ use Rattle.xs_instr.specs.Machine.{link_of}
 use Rattle.xc_meaning.specs.States.Channels.{Parcel, Side, first, second, other_side, Inboxes, no_parcels}
 use Rattle.xr_channels.specs.Phases.{SideState, Direction}
 use Rattle.xr_channels.specs.ChannelRel.{ChannelRel}
+pub use Rattle.xr_channels.specs.ChannelSteps.{same_side, pick, moved_to}
 use Rattle.xr_channels.specs.Channels.{Links, tokens_at, tokens_for, end_of_side, Ghosts, direction_to, Channels, IsWired}
 use Rattle.xr_channels.proofs.Tokens.Views.{same_num, num_other}
 use Rattle.xr_channels.proofs.Tokens.Changes.{Changed, Sends}
 use Rattle.xr_channels.proofs.Laws.FreshRows.{AfterSending}
 use Rattle.xr_channels.proofs.All.Frames.{parcels, boxed, boxed_here, boxed_there, length_box, get_box_other, twice, OnlyAt, stands_is, sent_is, line_is, talk_at, sends_wires, takes_wires, goes_wires}
-
--- whether two sides are one
-abbrev pub same_side : Side → Side → Bool
-same_side first first = true
-same_side first second = false
-same_side second first = false
-same_side second second = true
-
--- one of two, by a test
-abbrev pub pick : {A : Type 0} → Bool → A → A → A
-pick true new old = new
-pick false new old = old
-
--- A side of a channel stands elsewhere, and other parcels are late to the other side.
-abbrev pub moved_to : Ghosts → (channel : ℕ) → Side → SideState → List Parcel → Ghosts
-moved_to g k side s late = record {
-  side_states = λ j x. pick (nat_eq j k && same_side x side) s (g.side_states j x);
-  late = λ j x. pick (nat_eq j k && same_side x (other_side side)) late (g.late j x);
-}
 
 -- The channel's parts afterwards.
 pub record Update (k : ℕ) (side : Side) (old new : List Inboxes) (g g' : Ghosts) (s : SideState) (there here late : List Parcel) : Type 0 where

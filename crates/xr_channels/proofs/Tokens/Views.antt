@@ -1,5 +1,5 @@
 -- How the tokens at ends and on links change.
-use Rattle.std.proofs.Common.{◌≡◌, ◌<◌, ◌≢◌, ℕ, suc, zero, ◌+◌, Bool, true, false, List, [], ◌∷◌, ◌++◌, Option, Some, None, refl, sym, ap, ◌∙◌, subst, append_assoc, append-nil, inl, inr, eq-eqb}
+use Rattle.std.proofs.Common.{◌≡◌, ◌<◌, ◌≢◌, ℕ, suc, zero, ◌+◌, Bool, true, false, List, [], ◌∷◌, ◌++◌, Option, Some, None, refl, sym, ap, ◌∙◌, subst, append_assoc, append-nil, inl, inr, eq-eqb, arith}
 use Rattle.std.proofs.lemmas.Bool.{eqb-true, eqb-false}
 use Rattle.std.specs.Prelude.{◌⊎◌, nat_eq, slice_get, slice_set}
 use Rattle.xs_instr.specs.declared.state.ChanEnd.{ChanEnd}
@@ -8,7 +8,7 @@ use Rattle.xs_instr.specs.declared.state.Moved.{Moved}
 use Rattle.xs_instr.specs.declared.state.Moved.TheVariants.{Tok, Credit}
 use Rattle.xs_instr.specs.declared.state.Token.{Token}
 use Rattle.xs_instr.specs.Ends.{arrives, all_arrive, token_at, credit_at, tokens_to, credits_to, all_sent}
-use Rattle.xs_instr.specs.Machine.{items_in, link_in, link_of, link_put_in, link_put, on_links}
+use Rattle.xs_instr.specs.Machine.{items_in, link_in, link_of, link_put_in, link_put, on_links, no_links}
 use Rattle.xr_channels.specs.Channels.{Links, tokens_in, token_by, token_for, tokens_for}
 
 -- an element that is written
@@ -110,6 +110,27 @@ credits_arrive ends f g (suc n) = credits_arrive (arrives ends (Credit f)) f g n
 -- four links out of each of four cores
 pub record Square (links : Links) : Type 0 where
   pub rows : (a : ℕ) → a < 4 → (out : List (List Item)) × (slice_get links a ≡ Some out) × ((b : ℕ) → b < 4 → (items : List Item) × (slice_get out b ≡ Some items))
+
+-- four empty links out of each of four cores
+pub no_square : Square no_links
+no_square = record { rows = λ a lt. (replicate_4, row a lt, columns) }
+  where
+    replicate_4 : List (List Item)
+    replicate_4 = [] ∷ [] ∷ [] ∷ [] ∷ []
+
+    row : (a : ℕ) → a < 4 → slice_get no_links a ≡ Some replicate_4
+    row zero lt = refl
+    row (suc zero) lt = refl
+    row (suc (suc zero)) lt = refl
+    row (suc (suc (suc zero))) lt = refl
+    row (suc (suc (suc (suc a)))) lt = absurd (omega (arith, lt))
+
+    columns : (b : ℕ) → b < 4 → (items : List Item) × (slice_get replicate_4 b ≡ Some items)
+    columns zero lt = ([], refl)
+    columns (suc zero) lt = ([], refl)
+    columns (suc (suc zero)) lt = ([], refl)
+    columns (suc (suc (suc zero))) lt = ([], refl)
+    columns (suc (suc (suc (suc b)))) lt = absurd (omega (arith, lt))
 
 -- the link that is written
 pub get_put : (links : Links) (a b : ℕ) (x : List Item) → Square links → a < 4 → b < 4 → link_of (link_put links a b x) a b ≡ x
