@@ -3,13 +3,13 @@ pub mod Wired
 pub mod Frames
 pub mod Chosen
 pub mod Rows
+pub mod OverLinks
+pub mod SideEnds
 pub mod Near
 pub mod NearPlain
 pub mod Pauses
 pub mod NearPauses
 pub mod Arrivals
 pub mod Moves
-pub mod OverLinks
-pub mod SideEnds
 pub mod Begins
 pub mod Example
