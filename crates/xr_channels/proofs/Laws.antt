@@ -8,3 +8,4 @@ pub mod ReadyEnds
 pub mod Deliveries
 pub mod CreditsOverLinks
 pub mod StreamReady
+pub mod AnyDistance

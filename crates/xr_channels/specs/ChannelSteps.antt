@@ -1,6 +1,6 @@
 -- What a step writes down of a channel: where a side stands, what is late, and the parcels.
 use Rattle.std.specs.Prelude.{◌≡◌, ◌⊎◌, ℕ, Bool, true, false, ◌&&◌, List, [], ◌∷◌, ◌++◌, nat_eq, slice_set, slice_index_or}
-use Rattle.xc_meaning.specs.States.Channels.{Parcel, offer, opening, word, Side, first, second, other_side, Inboxes, no_parcels, parcels_at, with_parcels}
+use Rattle.xc_meaning.specs.States.Channels.{Parcel, offer, opening, word, closing, taken, Side, first, second, other_side, Inboxes, no_parcels, parcels_at, with_parcels}
 use Rattle.xr_channels.specs.Phases.{Phase, offers, opens, sends_end, awaits_ack, streams, SideState}
 use Rattle.xr_channels.specs.Channels.{Ghosts}
 
@@ -15,6 +15,27 @@ boxed boxes k side ps = slice_set boxes k (with_parcels (slice_index_or boxes k 
 -- a parcel is put at a side
 abbrev pub put_at : List Inboxes → (channel : ℕ) → Side → Parcel → List Inboxes
 put_at boxes k side x = boxed boxes k side (parcels boxes k side ++ x ∷ [])
+
+-- what a row awaits: an answer, an opening, a closing, an offer or a word
+abbrev pub is_taken : Parcel → Bool
+is_taken taken = true
+is_taken p = false
+
+abbrev pub is_opening : Parcel → Bool
+is_opening opening = true
+is_opening p = false
+
+abbrev pub is_closing : Parcel → Bool
+is_closing closing = true
+is_closing p = false
+
+abbrev pub is_offer : Parcel → Bool
+is_offer (offer v) = true
+is_offer p = false
+
+abbrev pub is_word : Parcel → Bool
+is_word (word v) = true
+is_word p = false
 
 -- whether two sides are one
 abbrev pub same_side : Side → Side → Bool
@@ -37,6 +58,7 @@ moved_to g k side s late = record {
 
 -- What a late parcel is, by where its sender stands. Once it is put these are still late, and the sender is inside a transaction or not.
 pub data LateKind (phase : Phase) (inside : Bool) : Parcel → (rest : List Parcel) → (then_inside : Bool) → Type 0 where
-  late_offer : (v : ℕ) → (phase ≡ sends_end v) ⊎ (phase ≡ awaits_ack (offers v)) → inside ≡ false → LateKind phase inside (offer v) [] false
+  late_offer : (v : ℕ) → (phase ≡ sends_end v) ⊎ (phase ≡ awaits_ack (offers v)) → inside ≡ false →
+      LateKind phase inside (offer v) [] false
   late_opening : phase ≡ awaits_ack opens → inside ≡ false → LateKind phase inside opening [] true
   late_word : (v : ℕ) (rest : List Parcel) → phase ≡ streams → inside ≡ true → LateKind phase inside (word v) rest true

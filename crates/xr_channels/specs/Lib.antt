@@ -5,4 +5,6 @@ pub mod Balance
 pub mod CreditsOverLinks
 pub mod ChannelSteps
 pub mod ChannelsOverLinks
+pub mod SideRows
 pub mod Laws
+pub mod LawsOverLinks

@@ -7,4 +7,6 @@
 
 mod law;
 
-pub use law::{channels_begin, credits_over_links, ends_agree, none_ready};
+pub use law::{
+    channels_begin, channels_over_links, credits_over_links, ends_agree, none_ready, quiet_channels,
+};

@@ -25,7 +25,8 @@ use Rattle.xr_channels.proofs.Sides.Found.{is_taken, is_opening, is_closing, is_
 use Rattle.xr_channels.proofs.All.Begins.{boot_links}
 use Rattle.xr_channels.proofs.All.OverLinks.{local_over, quiet_local}
 use Rattle.xr_channels.proofs.All.SideEnds as any
-use Rattle.xr_channels.proofs.All.SideEnds.{SideEnd, here, away}
+use Rattle.xr_channels.specs.SideRows as row
+use Rattle.xr_channels.specs.SideRows.{SideEnd, is_put, is_late}
 
 -- A core's row on the end of a side of a channel, whose other end is on the core too.
 pub record IsNear (pairs : List Pair) (cores : List CoreState) (k : ℕ) (p : Pair) (side : Side) (home : Home) (core : CoreState) (end : ChanEnd) : Type 0 where
@@ -95,7 +96,7 @@ module _ (near_end : NearEnd) (t : ℕ) (thread : Thread) where
     pub local : Local pairs (slice_set cores c left) boxes' (moved_to g k side s [])
 
   -- with nothing sent over a link, and nothing late
-  next : (left : CoreState) (sent : List Sent) (boxes' : List Inboxes) (s : SideState) (late : List Parcel) → sent ≡ [] → late ≡ [] → any.Next side_end t thread left sent boxes' s late → Next left boxes' s
+  next : (left : CoreState) (sent : List Sent) (boxes' : List Inboxes) (s : SideState) (late : List Parcel) → sent ≡ [] → late ≡ [] → row.Next side_end left sent boxes' s late → Next left boxes' s
   next left sent boxes' s late nothing none then = record {
     size = then.size;
     local = quiet_local pairs wired (slice_set cores c left) no_links boxes' (moved_to g k side s [])
@@ -120,13 +121,13 @@ module _ (near_end : NearEnd) (t : ℕ) (thread : Thread) where
   module _ (ks : List Token) where
     -- what the row leaves, and what it does
     abbrev pub sent_gone : Gone
-    sent_gone = any.sent_gone side_end t thread ks
+    sent_gone = row.sent_gone side_end t thread ks
 
     abbrev pub sent_left : CoreState
-    sent_left = any.sent_left side_end t thread ks
+    sent_left = row.sent_left side_end t thread ks
 
     abbrev pub sent_did : Did CoreState
-    sent_did = any.sent_did side_end t thread ks
+    sent_did = row.sent_did side_end t thread ks
 
     -- there are too few credits; or the row goes on
     pub data NearSend (boxes' : List Inboxes) (s : SideState) : Type 0 where
@@ -138,15 +139,15 @@ module _ (near_end : NearEnd) (t : ℕ) (thread : Thread) where
     nothing_out = any.sent_near side_end t thread ks at.near
 
     -- of a row after which one thing stands
-    sends_so : (boxes' : List Inboxes) (s : SideState) (late : List Parcel) → late ≡ [] → any.SendRow side_end t thread ks (any.SentNext side_end t thread ks boxes' s late) → NearSend boxes' s
-    sends_so boxes' s late none (any.sends_pauses did few) = sends_pauses did few
-    sends_so boxes' s late none (any.sends_makes did then) = sends_makes (did ∙ ap (Made sent_left None) nothing_out) (next sent_left sent_gone.sent boxes' s late nothing_out none then)
+    sends_so : (boxes' : List Inboxes) (s : SideState) (late : List Parcel) → late ≡ [] → row.SendRow side_end t thread ks (row.SentNext side_end t thread ks boxes' s late) → NearSend boxes' s
+    sends_so boxes' s late none (row.sends_pauses did few) = sends_pauses did few
+    sends_so boxes' s late none (row.sends_makes did then) = sends_makes (did ∙ ap (Made sent_left None) nothing_out) (next sent_left sent_gone.sent boxes' s late nothing_out none then)
 
     -- and of one that begins a parcel, which is put at once
-    begins_so : (x : Parcel) (put not_yet : SideState) (late : List Parcel) → any.SendRow side_end t thread ks (any.Begins side_end t thread ks x put not_yet late) → NearSend (with_parcel x) put
-    begins_so x put not_yet late (any.sends_pauses did few) = sends_pauses did few
-    begins_so x put not_yet late (any.sends_makes did (here same then)) = sends_makes (did ∙ ap (Made sent_left None) nothing_out) (next sent_left sent_gone.sent (with_parcel x) put [] nothing_out refl then)
-    begins_so x put not_yet late (any.sends_makes did (away ne then)) = absurd (ne at.near)
+    begins_so : (x : Parcel) (put not_yet : SideState) (late : List Parcel) → row.SendRow side_end t thread ks (row.Begins side_end t thread ks x put not_yet late) → NearSend (with_parcel x) put
+    begins_so x put not_yet late (row.sends_pauses did few) = sends_pauses did few
+    begins_so x put not_yet late (row.sends_makes did (is_put same then)) = sends_makes (did ∙ ap (Made sent_left None) nothing_out) (next sent_left sent_gone.sent (with_parcel x) put [] nothing_out refl then)
+    begins_so x put not_yet late (row.sends_makes did (is_late ne then)) = absurd (ne at.near)
 
   -- OUT of a plain output: the offer is put
   pub out_plain : (v : ℕ) → g.side_states k side ≡ side_state between false → NearSend (word_tokens v) (with_parcel (offer v)) (side_state (sends_end v) false)
@@ -184,7 +185,7 @@ module _ (near_end : NearEnd) (t : ℕ) (thread : Thread) where
   module _ (n : ℕ) where
     -- the ends without the tokens, and with the credits
     abbrev pub taken_gone : Gone
-    taken_gone = any.taken_gone side_end t thread n
+    taken_gone = row.taken_gone side_end t thread n
 
     -- nothing leaves the core
     nothing_back : taken_gone.sent ≡ []
@@ -192,10 +193,10 @@ module _ (near_end : NearEnd) (t : ℕ) (thread : Thread) where
 
   -- what IN leaves, and what it does
   abbrev pub in_left : Reg → ℕ → CoreState
-  in_left d v = any.in_left side_end t thread d v
+  in_left d v = row.in_left side_end t thread d v
 
   abbrev pub in_did : Reg → Did CoreState
-  in_did d = any.in_did side_end t thread d
+  in_did d = row.in_did side_end t thread d
 
   -- too few tokens are there; or the word of the parcel that stood first, which is recorded; or another parcel stood first
   pub data NearInput (d : Reg) (given : ℕ → Parcel) (wanted : Parcel → Bool) (boxes' : List Parcel → List Inboxes) (s : SideState) : Type 0 where
@@ -204,10 +205,10 @@ module _ (near_end : NearEnd) (t : ℕ) (thread : Thread) where
     inputs_traps : (x : Parcel) (ps : List Parcel) → in_did d ≡ Traps Mismatch → parcels boxes k side ≡ x ∷ ps → wanted x ≡ false → NearInput d given wanted boxes' s
 
   -- by what the row finds
-  inputs_so : (d : Reg) (given : ℕ → Parcel) (wanted : Parcel → Bool) (boxes' : List Parcel → List Inboxes) (s : SideState) (late : List Parcel) → late ≡ [] → any.InputRow side_end t thread d given wanted boxes' s late → NearInput d given wanted boxes' s
-  inputs_so d given wanted boxes' s late none (any.inputs_pauses did waits few) = inputs_pauses did waits few
-  inputs_so d given wanted boxes' s late none (any.inputs_makes v ps did found then) = inputs_makes v ps (did ∙ ap (Made (in_left d v) (Some (Com home.number v))) (nothing_back 4)) found (next (in_left d v) (taken_gone 4).sent (boxes' ps) s late (nothing_back 4) none then)
-  inputs_so d given wanted boxes' s late none (any.inputs_traps x ps did found wrong) = inputs_traps x ps did found wrong
+  inputs_so : (d : Reg) (given : ℕ → Parcel) (wanted : Parcel → Bool) (boxes' : List Parcel → List Inboxes) (s : SideState) (late : List Parcel) → late ≡ [] → row.InputRow side_end t thread d given wanted boxes' s late → NearInput d given wanted boxes' s
+  inputs_so d given wanted boxes' s late none (row.inputs_pauses did waits few) = inputs_pauses did waits few
+  inputs_so d given wanted boxes' s late none (row.inputs_makes v ps did found then) = inputs_makes v ps (did ∙ ap (Made (in_left d v) (Some (Com home.number v))) (nothing_back 4)) found (next (in_left d v) (taken_gone 4).sent (boxes' ps) s late (nothing_back 4) none then)
+  inputs_so d given wanted boxes' s late none (row.inputs_traps x ps did found wrong) = inputs_traps x ps did found wrong
 
   -- IN of a plain input: an offer is taken and answered
   pub in_plain : (d : Reg) → g.side_states k side ≡ side_state between false → NearInput d offer is_offer answered (side_state checks_end false)
@@ -223,10 +224,10 @@ module _ (near_end : NearEnd) (t : ℕ) (thread : Thread) where
 
   -- what CHKCT leaves, and what it does
   abbrev pub check_left : CoreState
-  check_left = any.check_left side_end t thread
+  check_left = row.check_left side_end t thread
 
   abbrev pub check_did : ℕ → Did CoreState
-  check_did n = any.check_did side_end t thread n
+  check_did n = row.check_did side_end t thread n
 
   -- no token is there; or the awaited parcel stood first; or another one did
   pub data NearCheck (n : ℕ) (given : Parcel) (wanted : Parcel → Bool) (boxes' : List Parcel → List Inboxes) (s : SideState) : Type 0 where
@@ -235,10 +236,10 @@ module _ (near_end : NearEnd) (t : ℕ) (thread : Thread) where
     checks_traps : (x : Parcel) (ps : List Parcel) → check_did n ≡ Traps Mismatch → parcels boxes k side ≡ x ∷ ps → wanted x ≡ false → NearCheck n given wanted boxes' s
 
   -- by what the row finds
-  checks_so : (n : ℕ) (given : Parcel) (wanted : Parcel → Bool) (boxes' : List Parcel → List Inboxes) (s : SideState) → any.CheckRow side_end t thread n given wanted boxes' s → NearCheck n given wanted boxes' s
-  checks_so n given wanted boxes' s (any.checks_pauses did none) = checks_pauses did none
-  checks_so n given wanted boxes' s (any.checks_makes ps did found then) = checks_makes ps (did ∙ ap (Made check_left None) (nothing_back 1)) found (next check_left (taken_gone 1).sent (boxes' ps) s [] (nothing_back 1) refl then)
-  checks_so n given wanted boxes' s (any.checks_traps x ps did found wrong) = checks_traps x ps did found wrong
+  checks_so : (n : ℕ) (given : Parcel) (wanted : Parcel → Bool) (boxes' : List Parcel → List Inboxes) (s : SideState) → row.CheckRow side_end t thread n given wanted boxes' s → NearCheck n given wanted boxes' s
+  checks_so n given wanted boxes' s (row.checks_pauses did none) = checks_pauses did none
+  checks_so n given wanted boxes' s (row.checks_makes ps did found then) = checks_makes ps (did ∙ ap (Made check_left None) (nothing_back 1)) found (next check_left (taken_gone 1).sent (boxes' ps) s [] (nothing_back 1) refl then)
+  checks_so n given wanted boxes' s (row.checks_traps x ps did found wrong) = checks_traps x ps did found wrong
 
   -- CHKCT ACK: the answer is taken
   pub chkct_ack : (z : Question) (i : Bool) → g.side_states k side ≡ side_state (awaits_ack z) i → NearCheck 3 taken is_taken without_first (side_state between i)
@@ -261,6 +262,6 @@ module _ (near_end : NearEnd) (t : ℕ) (thread : Thread) where
   pub chkct_end : (i : Bool) → g.side_states k side ≡ side_state checks_end i → NearEndCheck (side_state sends_ack i)
   chkct_end i at_side = by (any.chkct_end side_end t thread i at_side)
     where
-      by : any.EndCheckRow side_end t thread (side_state sends_ack i) → NearEndCheck (side_state sends_ack i)
-      by (any.end_pauses did none) = end_pauses did none
-      by (any.end_makes did then) = end_makes (did ∙ ap (Made check_left None) (nothing_back 1)) (next check_left (taken_gone 1).sent boxes (side_state sends_ack i) [] (nothing_back 1) refl then)
+      by : row.EndCheckRow side_end t thread (side_state sends_ack i) → NearEndCheck (side_state sends_ack i)
+      by (row.end_pauses did none) = end_pauses did none
+      by (row.end_makes did then) = end_makes (did ∙ ap (Made check_left None) (nothing_back 1)) (next check_left (taken_gone 1).sent boxes (side_state sends_ack i) [] (nothing_back 1) refl then)

@@ -18,7 +18,7 @@ use Rattle.xr_channels.proofs.Laws.FreshRows.{none_asked}
 use Rattle.xr_channels.proofs.All.Pauses.{Enabled, may_end, may_check, may_check_end, may_answer, may_close, out_justified, ack_justified, end_check_justified, slave_end_justified, output_end_justified, answer_justified, input_justified}
 use Rattle.xr_channels.proofs.Tokens.Lengths.{has_room, out_pause_full, outct_pause_full}
 use Rattle.xr_channels.proofs.All.OverLinks.{quiet_local, none_late}
-use Rattle.xr_channels.proofs.All.SideEnds.{SideEnd}
+use Rattle.xr_channels.specs.SideRows.{SideEnd}
 
 -- The end of a side of a channel, wherever the other end is, and what stands between the sides of all channels while nothing is on a link.
 pub record QuietEnd : Type 0 where

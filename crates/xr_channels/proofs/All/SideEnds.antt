@@ -1,28 +1,24 @@
 -- The rows on the end of a side of a channel, wherever the other end is: whether the row pauses, goes on or traps, what parcel stood first,
 -- and what then stands between the sides, with what is on links.
-use Rattle.std.proofs.Common.{◌≡◌, ◌<◌, ◌≤◌, ◌≢◌, ℕ, ◌-◌, Bool, true, false, List, [], ◌∷◌, ◌++◌, length, drop, Some, None, refl, sym, ap, ◌∙◌, subst, arith, eq-eqb, inl, inr}
+use Rattle.std.proofs.Common.{◌≡◌, ◌≤◌, ◌≢◌, ℕ, ◌-◌, Bool, true, false, List, [], ◌∷◌, ◌++◌, length, drop, refl, sym, ap, ◌∙◌, subst, arith, eq-eqb, inl, inr}
 use Rattle.std.specs.Prelude.{◌⊎◌, slice_get, slice_set, nat_eq, nat_le}
 use Rattle.std.proofs.lemmas.Bool.{leb-true}
-use Rattle.xs_instr.specs.declared.image.Home.{Home}
-use Rattle.xs_instr.specs.declared.image.Pair.{Pair}
 use Rattle.xs_instr.specs.declared.instr.Reg.{Reg}
 use Rattle.xs_instr.specs.declared.state.ChanEnd.{ChanEnd}
 use Rattle.xs_instr.specs.declared.state.CoreState.{CoreState}
 use Rattle.xs_instr.specs.declared.state.Sent.{Sent}
 use Rattle.xs_instr.specs.declared.state.Thread.{Thread}
 use Rattle.xs_instr.specs.declared.state.Token.{Token}
-use Rattle.xs_instr.specs.declared.trace.Record.TheVariants.{Com}
-use Rattle.xs_instr.specs.declared.trace.Trap.TheVariants.{Mismatch}
-use Rattle.xs_instr.specs.Did.{Did, Made, Paused, Traps, map_did}
-use Rattle.xs_instr.specs.Ends.{Peer, peer_of, Gone, outs, goes_by, tokens_go, tokens_taken, tokens_to, credits_to, word_tokens, ins_word, ins_control, take_word, NotYet, given_ends}
+use Rattle.xs_instr.specs.Ends.{Peer, peer_of, Gone, goes_by, tokens_to, credits_to, word_tokens, take_word}
 use Rattle.xs_instr.specs.Machine.{on_links}
-use Rattle.xs_instr.specs.Rows.{goes_with, gets_with, put_ends}
-use Rattle.xc_meaning.specs.States.Channels.{Parcel, offer, opening, word, closing, taken, Side, other_side, Inboxes}
+use Rattle.xc_meaning.specs.States.Channels.{Parcel, offer, opening, word, closing, taken, Side, Inboxes}
 use Rattle.xr_channels.specs.Phases.{END, ACK, OPEN, Question, offers, opens, closes, between, sends_end, awaits_ack, checks_end, sends_ack, was_closed, streams, SideState, side_state, TransitRel}
-use Rattle.xr_channels.specs.ChannelSteps.{parcels, boxed, put_at, moved_to, LateKind}
-use Rattle.xr_channels.specs.Channels.{Links, tokens_in, ends_in, tokens_at, end_of_side, Ghosts, direction_to, Channels, IsWired}
+use Rattle.xr_channels.specs.ChannelSteps.{parcels, moved_to, LateKind}
+use Rattle.xr_channels.specs.Channels.{tokens_in, ends_in, tokens_at, end_of_side, direction_to, Channels}
 use Rattle.xr_channels.specs.CreditsOverLinks.{BalancedOverLinks}
 use Rattle.xr_channels.specs.ChannelsOverLinks.{ChannelsOverLinks}
+use Rattle.xr_channels.specs.SideRows as row
+use Rattle.xr_channels.specs.SideRows.{SideEnd, sends_pauses, sends_makes, is_put, is_late, inputs_pauses, inputs_makes, inputs_traps, checks_pauses, checks_makes, checks_traps, end_pauses, end_makes}
 use Rattle.xr_channels.proofs.Sides.Found.{is_taken, is_opening, is_closing, is_offer, is_word}
 use Rattle.xr_channels.proofs.Sides.Takes.{answered_on_time}
 use Rattle.xr_channels.proofs.Sides.Updates.{at_spot}
@@ -33,46 +29,21 @@ use Rattle.xr_channels.proofs.All.Arrivals as arrivals
 use Rattle.xr_channels.proofs.All.Rows as rows
 use Rattle.xr_channels.proofs.All.Rows.{in_pauses, in_makes, in_traps, check_pauses, check_makes, check_traps, ends_pauses, ends_makes}
 
--- A core's row on the end of a side of a channel.
-pub record IsSideEnd (pairs : List Pair) (cores : List CoreState) (k : ℕ) (p : Pair) (side : Side) (home : Home) (core : CoreState) (end : ChanEnd) : Type 0 where
-  pub channel : slice_get pairs k ≡ Some p
-  pub number : home.number ≡ (end_of_side p side).core
-  pub same_pairs : home.pairs ≡ pairs
-  pub at_core : slice_get cores (end_of_side p side).core ≡ Some core
-  pub at_end : slice_get core.ends (end_of_side p side).end ≡ Some end
-
--- Such an end, and what stands between the sides of all channels: what each of its rows is told of.
-pub record SideEnd : Type 0 where
-  pub pairs : List Pair
-  pub wired : IsWired pairs
-  pub cores : List CoreState
-  pub links : Links
-  pub boxes : List Inboxes
-  pub ghosts : Ghosts
-  pub over : ChannelsOverLinks pairs cores links boxes ghosts
-  pub line : ℕ
-  pub pair : Pair
-  pub side : Side
-  pub home : Home
-  pub core : CoreState
-  pub end : ChanEnd
-  pub is_end : IsSideEnd pairs cores line pair side home core end
-
 module _ (side_end : SideEnd) (t : ℕ) (thread : Thread) where
   open side_end use {pairs, wired, cores, links, boxes, ghosts as g, over as now, line as k, pair as p, side, home, core, end, is_end as at}
 
   -- the core and the end, the other side and the peer
-  abbrev pub c : ℕ
-  c = (end_of_side p side).core
+  abbrev c : ℕ
+  c = row.c side_end
 
-  abbrev pub e : ℕ
-  e = (end_of_side p side).end
+  abbrev e : ℕ
+  e = row.e side_end
 
-  abbrev pub other : Side
-  other = other_side side
+  abbrev other : Side
+  other = row.other side_end
 
-  abbrev pub q : Peer
-  q = peer_of home.pairs home.number e
+  abbrev q : Peer
+  q = row.q side_end
 
   -- the peer is the other side's end
   q_is : q ≡ end_of_side p other
@@ -88,24 +59,20 @@ module _ (side_end : SideEnd) (t : ℕ) (thread : Thread) where
 
   -- what stands between the sides of the channel
   talk : (s : SideState) → g.side_states k side ≡ s → TransitRel s (g.side_states k other) (direction_to cores links boxes g p k other) (direction_to cores links boxes g p k side)
-  talk s here = (at_spot pairs wired cores links boxes g now.wires k p side at.channel s here).talk
+  talk s at_side = (at_spot pairs wired cores links boxes g now.wires k p side at.channel s at_side).talk
 
-  -- What a row leaves: as many ends as before, and the channels with what it sent, these inboxes, the side there, and this late to the other.
-  pub record Next (left : CoreState) (sent : List Sent) (boxes' : List Inboxes) (s : SideState) (late : List Parcel) : Type 0 where
-    pub size : length left.ends ≡ length core.ends
-    pub over : ChannelsOverLinks pairs (slice_set cores c left) (on_links links c sent) boxes' (moved_to g k side s late)
+  -- what a row leaves, and the inboxes
+  abbrev Next : CoreState → List Sent → List Inboxes → SideState → List Parcel → Type 0
+  Next = row.Next side_end
 
-  -- what is put at the other side
-  abbrev pub with_parcel : Parcel → List Inboxes
-  with_parcel x = put_at boxes k other x
+  abbrev with_parcel : Parcel → List Inboxes
+  with_parcel = row.with_parcel side_end
 
-  -- an inbox without its first parcel
-  abbrev pub without_first : List Parcel → List Inboxes
-  without_first ps = boxed boxes k side ps
+  abbrev without_first : List Parcel → List Inboxes
+  without_first = row.without_first side_end
 
-  -- and with an answer at the other side
-  abbrev pub answered : List Parcel → List Inboxes
-  answered ps = boxed (boxed boxes k side ps) k other (parcels boxes k other ++ taken ∷ [])
+  abbrev answered : List Parcel → List Inboxes
+  answered = row.answered side_end
 
   -- within a core nothing leaves it
   stays_near : (ends : List ChanEnd) (near : Bool) → nat_eq q.core home.number ≡ near → (end_of_side p other).core ≡ c → (sent_by : Bool → List Sent) → sent_by true ≡ [] → sent_by near ≡ []
@@ -117,33 +84,25 @@ module _ (side_end : SideEnd) (t : ℕ) (thread : Thread) where
 
   -- OUT and OUTCT: tokens go out.
   module _ (ks : List Token) where
-    -- what the row leaves, and what it does
-    abbrev pub sent_gone : Gone
-    sent_gone = tokens_go home core.clock core.ends e end ks q
+    -- what the row leaves, and what then stands
+    abbrev sent_gone : Gone
+    sent_gone = row.sent_gone side_end t thread ks
 
-    abbrev pub sent_left : CoreState
-    sent_left = goes_with put_ends core t thread sent_gone.ends
+    abbrev sent_left : CoreState
+    sent_left = row.sent_left side_end t thread ks
 
-    abbrev pub sent_did : Did CoreState
-    sent_did = map_did (goes_with put_ends core t thread) (outs home core.clock ks core.ends e end)
+    abbrev SendRow : Type 0 → Type 0
+    SendRow = row.SendRow side_end t thread ks
+
+    abbrev SentNext : List Inboxes → SideState → List Parcel → Type 0
+    SentNext = row.SentNext side_end t thread ks
+
+    abbrev Begins : Parcel → SideState → SideState → List Parcel → Type 0
+    Begins = row.Begins side_end t thread ks
 
     -- within a core nothing is sent over a link
     pub sent_near : (end_of_side p other).core ≡ c → sent_gone.sent ≡ []
     sent_near same = stays_near core.ends (nat_eq q.core home.number) refl same (λ b. (goes_by (slice_set core.ends e (record end { credits = end.credits - length ks })) q.core core.clock (tokens_to q.end ks) b).sent) refl
-
-    -- there are too few credits; or the row goes on, and so stands then
-    pub data SendRow (Then : Type 0) : Type 0 where
-      sends_pauses : sent_did ≡ Paused → nat_le (length ks) end.credits ≡ false → SendRow Then
-      sends_makes : sent_did ≡ Made sent_left None sent_gone.sent → Then → SendRow Then
-
-    -- what stands then
-    abbrev pub SentNext : List Inboxes → SideState → List Parcel → Type 0
-    SentNext boxes' s late = Next sent_left sent_gone.sent boxes' s late
-
-    -- What is sent begins a parcel. To an end on the core it is put at once, and to one on another core it is late.
-    pub data Begins (x : Parcel) (put : SideState) (not_yet : SideState) (late : List Parcel) : Type 0 where
-      here : (end_of_side p other).core ≡ c → SentNext (with_parcel x) put [] → Begins x put not_yet late
-      away : (end_of_side p other).core ≢ c → SentNext boxes not_yet late → Begins x put not_yet late
 
     -- as many ends as before
     sent_size : length sent_left.ends ≡ length core.ends
@@ -176,8 +135,8 @@ module _ (side_end : SideEnd) (t : ℕ) (thread : Thread) where
     begins_so x put not_yet late close far = sends_by (Begins x put not_yet late) (by (same_num (end_of_side p other).core c))
       where
         by : ((end_of_side p other).core ≡ c) ⊎ ((end_of_side p other).core ≢ c) → BalancedOverLinks pairs (slice_set cores c sent_left) (on_links links c sent_gone.sent) → Begins x put not_yet late
-        by (inl same) balanced = here same (record { size = sent_size; over = record { wires = close same; balanced = balanced } })
-        by (inr ne) balanced = away ne (record { size = sent_size; over = record { wires = far ne; balanced = balanced } })
+        by (inl same) balanced = is_put same (record { size = sent_size; over = record { wires = close same; balanced = balanced } })
+        by (inr ne) balanced = is_late ne (record { size = sent_size; over = record { wires = far ne; balanced = balanced } })
 
   -- a side in no piece has nothing late
   none_late_between : (i : Bool) → g.side_states k side ≡ side_state between i → g.late k other ≡ []
@@ -243,8 +202,8 @@ module _ (side_end : SideEnd) (t : ℕ) (thread : Thread) where
   -- IN and CHKCT: tokens are taken.
   module _ (n : ℕ) where
     -- the ends without the tokens, and the credits that go back
-    abbrev pub taken_gone : Gone
-    taken_gone = tokens_taken home core.clock core.ends e end n q
+    abbrev taken_gone : Gone
+    taken_gone = row.taken_gone side_end t thread n
 
     -- within a core nothing is sent over a link
     pub taken_near : (end_of_side p other).core ≡ c → taken_gone.sent ≡ []
@@ -268,18 +227,12 @@ module _ (side_end : SideEnd) (t : ℕ) (thread : Thread) where
       };
     }
 
-  -- what IN leaves, and what it does
-  abbrev pub in_left : Reg → ℕ → CoreState
-  in_left d v = gets_with put_ends core t thread d (given_ends (taken_gone 4) v)
+  -- what IN leaves, and what then stands
+  abbrev in_left : Reg → ℕ → CoreState
+  in_left = row.in_left side_end t thread
 
-  abbrev pub in_did : Reg → Did CoreState
-  in_did d = map_did (gets_with put_ends core t thread d) (ins_word home core.clock core.ends e end)
-
-  -- too few tokens are there; or the word of the parcel that stood first, which is recorded; or another parcel stood first
-  pub data InputRow (d : Reg) (given : ℕ → Parcel) (wanted : Parcel → Bool) (boxes' : List Parcel → List Inboxes) (s : SideState) (late : List Parcel) : Type 0 where
-    inputs_pauses : in_did d ≡ Paused → take_word end.tokens ≡ NotYet → length end.tokens < 4 → InputRow d given wanted boxes' s late
-    inputs_makes : (v : ℕ) (ps : List Parcel) → in_did d ≡ Made (in_left d v) (Some (Com home.number v)) (taken_gone 4).sent → parcels boxes k side ≡ given v ∷ ps → Next (in_left d v) (taken_gone 4).sent (boxes' ps) s late → InputRow d given wanted boxes' s late
-    inputs_traps : (x : Parcel) (ps : List Parcel) → in_did d ≡ Traps Mismatch → parcels boxes k side ≡ x ∷ ps → wanted x ≡ false → InputRow d given wanted boxes' s late
+  abbrev InputRow : Reg → (ℕ → Parcel) → (Parcel → Bool) → (List Parcel → List Inboxes) → SideState → List Parcel → Type 0
+  InputRow = row.InputRow side_end t thread
 
   -- by what the row finds
   inputs_by : (d : Reg) (given : ℕ → Parcel) (wanted : Parcel → Bool) (boxes' : List Parcel → List Inboxes) (s : SideState) (late : List Parcel) → g.late k other ≡ late → rows.InResult pairs wired cores links boxes g now.wires sized k p side at.channel home core end t thread at.number at.same_pairs at.at_core at.at_end d given wanted (λ v ps. rows.Takes pairs wired cores links boxes g now.wires sized k p side at.channel home core end t thread at.number at.same_pairs at.at_core at.at_end 4 (in_left d v) (boxes' ps) s) → InputRow d given wanted boxes' s late
@@ -299,18 +252,12 @@ module _ (side_end : SideEnd) (t : ℕ) (thread : Thread) where
   pub in_stream : (d : Reg) → g.side_states k side ≡ side_state streams true → InputRow d word is_word without_first (side_state streams true) (g.late k other)
   in_stream d at_side = inputs_by d word is_word without_first (side_state streams true) (g.late k other) refl (rows.in_stream pairs wired cores links boxes g now.wires sized k p side at.channel home core end t thread at.number at.same_pairs at.at_core at.at_end d at_side)
 
-  -- what CHKCT leaves, and what it does
-  abbrev pub check_left : CoreState
-  check_left = goes_with put_ends core t thread (taken_gone 1).ends
+  -- what CHKCT leaves, and what then stands
+  abbrev check_left : CoreState
+  check_left = row.check_left side_end t thread
 
-  abbrev pub check_did : ℕ → Did CoreState
-  check_did n = map_did (goes_with put_ends core t thread) (ins_control home core.clock n core.ends e end)
-
-  -- no token is there; or the awaited parcel stood first; or another one did
-  pub data CheckRow (n : ℕ) (given : Parcel) (wanted : Parcel → Bool) (boxes' : List Parcel → List Inboxes) (s : SideState) : Type 0 where
-    checks_pauses : check_did n ≡ Paused → end.tokens ≡ [] → CheckRow n given wanted boxes' s
-    checks_makes : (ps : List Parcel) → check_did n ≡ Made check_left None (taken_gone 1).sent → parcels boxes k side ≡ given ∷ ps → Next check_left (taken_gone 1).sent (boxes' ps) s [] → CheckRow n given wanted boxes' s
-    checks_traps : (x : Parcel) (ps : List Parcel) → check_did n ≡ Traps Mismatch → parcels boxes k side ≡ x ∷ ps → wanted x ≡ false → CheckRow n given wanted boxes' s
+  abbrev CheckRow : ℕ → Parcel → (Parcel → Bool) → (List Parcel → List Inboxes) → SideState → Type 0
+  CheckRow = row.CheckRow side_end t thread
 
   -- by what the row finds: once it passes, nothing is late
   checks_by : (n : ℕ) (given : Parcel) (wanted : Parcel → Bool) (boxes' : List Parcel → List Inboxes) (s : SideState) → ((ps : List Parcel) → parcels boxes k side ≡ given ∷ ps → g.late k other ≡ []) → rows.CheckResult pairs wired cores links boxes g now.wires sized k p side at.channel home core end t thread at.number at.same_pairs at.at_core at.at_end n given wanted (λ ps. rows.Takes pairs wired cores links boxes g now.wires sized k p side at.channel home core end t thread at.number at.same_pairs at.at_core at.at_end 1 check_left (boxes' ps) s) → CheckRow n given wanted boxes' s
@@ -331,9 +278,8 @@ module _ (side_end : SideEnd) (t : ℕ) (thread : Thread) where
   chkct_end_slave at_side = checks_by 1 closing is_closing (λ ps. boxes) (side_state was_closed true) (λ ps found. none_late_between true at_side) (rows.chkct_end_slave pairs wired cores links boxes g now.wires sized k p side at.channel home core end t thread at.number at.same_pairs at.at_core at.at_end at_side)
 
   -- CHKCT END of a plain input: nothing in the program, and no trap
-  pub data EndCheckRow (s : SideState) : Type 0 where
-    end_pauses : check_did 1 ≡ Paused → end.tokens ≡ [] → EndCheckRow s
-    end_makes : check_did 1 ≡ Made check_left None (taken_gone 1).sent → Next check_left (taken_gone 1).sent boxes s [] → EndCheckRow s
+  abbrev EndCheckRow : SideState → Type 0
+  EndCheckRow = row.EndCheckRow side_end t thread
 
   -- it waits or passes
   pub chkct_end : (i : Bool) → g.side_states k side ≡ side_state checks_end i → EndCheckRow (side_state sends_ack i)
@@ -343,9 +289,9 @@ module _ (side_end : SideEnd) (t : ℕ) (thread : Thread) where
       by (ends_pauses did none) = end_pauses did (sym tokens_are ∙ none)
       by (ends_makes enough did next) = end_makes did (takes_next 1 check_left boxes (side_state sends_ack i) [] refl enough (talk (side_state checks_end i) at_side).outward.late.1 next)
 
-  -- The side traps on its CHKCT ACK, since another parcel than the answer stands first: what it has still to put is put now, and the machine
-  -- stands as it did.
-  pub trap_puts : (z : Question) (i : Bool) (x : Parcel) (rest : List Parcel) (y : Parcel) (ps : List Parcel) → g.side_states k side ≡ side_state (awaits_ack z) i → g.late k other ≡ x ∷ rest → parcels boxes k side ≡ y ∷ ps → is_taken y ≡ false → (then_inside : Bool) × LateKind (awaits_ack z) i x rest then_inside × ChannelsOverLinks pairs cores links (with_parcel x) (moved_to g k side (side_state (awaits_ack z) then_inside) rest)
-  trap_puts z i x rest y ps at_side late found wrong =
-      let put = arrivals.trap_puts pairs wired cores links boxes g now.wires (record { rows = now.balanced.rows }) k p side at.channel z i x rest y ps at_side late found wrong in
-      (put.0, put.1, record { wires = put.2; balanced = now.balanced })
+-- The side traps on its CHKCT ACK, since another parcel than the answer stands first: what it has still to put is put now, and the machine
+-- stands as it did.
+pub trap_puts : (at : SideEnd) (z : Question) (i : Bool) (x : Parcel) (rest : List Parcel) (y : Parcel) (ps : List Parcel) → row.StandsAt at (side_state (awaits_ack z) i) → row.late_now at ≡ x ∷ rest → row.Finds at (y ∷ ps) → is_taken y ≡ false → (then_inside : Bool) × LateKind (awaits_ack z) i x rest then_inside × ChannelsOverLinks at.pairs at.cores at.links (row.with_parcel at x) (moved_to at.ghosts at.line at.side (side_state (awaits_ack z) then_inside) rest)
+trap_puts at z i x rest y ps at_side late found wrong =
+    let put = arrivals.trap_puts at.pairs at.wired at.cores at.links at.boxes at.ghosts at.over.wires (record { rows = at.over.balanced.rows }) at.line at.pair at.side at.is_end.channel z i x rest y ps at_side late found wrong in
+    (put.0, put.1, record { wires = put.2; balanced = at.over.balanced })

@@ -4,28 +4,8 @@ use Rattle.std.specs.Prelude.{◌⊎◌, not, nat_eq, ◌||◌}
 use Rattle.xs_instr.specs.declared.state.Token.{Token}
 use Rattle.xs_instr.specs.Ends.{word_tokens, control_token, data_token, Passed, Other, NotThere, check, Word, Control, NotYet, take_word}
 use Rattle.xc_meaning.specs.States.Channels.{Parcel, offer, opening, word, closing, taken}
+pub use Rattle.xr_channels.specs.ChannelSteps.{is_taken, is_opening, is_closing, is_offer, is_word}
 use Rattle.xr_channels.specs.Phases.{END, ACK, OPEN, Question, Phase, between, sends_end, awaits_ack, checks_end, sends_ack, was_closed, streams, SideState, side_state, encodes, unread, ahead, switches_mode, Path, Direction, Transit}
-
--- what a row awaits
-abbrev pub is_taken : Parcel → Bool
-is_taken taken = true
-is_taken p = false
-
-abbrev pub is_opening : Parcel → Bool
-is_opening opening = true
-is_opening p = false
-
-abbrev pub is_closing : Parcel → Bool
-is_closing closing = true
-is_closing p = false
-
-abbrev pub is_offer : Parcel → Bool
-is_offer (offer v) = true
-is_offer p = false
-
-abbrev pub is_word : Parcel → Bool
-is_word (word v) = true
-is_word p = false
 
 -- CHKCT: nothing is there; or the first parcel is the one that is awaited, and the token too; or both are others
 pub data Checks (c : ℕ) (given : Parcel) (wanted : Parcel → Bool) (l : Direction) : Type 0 where
