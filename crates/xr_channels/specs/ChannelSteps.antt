@@ -17,9 +17,9 @@ abbrev pub put_at : List Inboxes → (channel : ℕ) → Side → Parcel → Lis
 put_at boxes k side x = boxed boxes k side (parcels boxes k side ++ x ∷ [])
 
 -- what a row awaits: an answer, an opening, a closing, an offer or a word
-abbrev pub is_taken : Parcel → Bool
-is_taken taken = true
-is_taken p = false
+abbrev pub is_answer : Parcel → Bool
+is_answer taken = true
+is_answer p = false
 
 abbrev pub is_opening : Parcel → Bool
 is_opening opening = true
@@ -33,9 +33,9 @@ abbrev pub is_offer : Parcel → Bool
 is_offer (offer v) = true
 is_offer p = false
 
-abbrev pub is_word : Parcel → Bool
-is_word (word v) = true
-is_word p = false
+abbrev pub is_sent_word : Parcel → Bool
+is_sent_word (word v) = true
+is_sent_word p = false
 
 -- whether two sides are one
 abbrev pub same_side : Side → Side → Bool

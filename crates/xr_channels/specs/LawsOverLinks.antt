@@ -17,7 +17,7 @@ use Rattle.xs_instr.specs.Machine.{Machine, Move, boot, does, link_of, on_links}
 use Rattle.xs_instr.specs.Valid.{Valid}
 use Rattle.xc_meaning.specs.States.Channels.{Parcel, offer, opening, word, closing, taken, Side, Inboxes}
 use Rattle.xr_channels.specs.Phases.{END, ACK, OPEN, Question, offers, opens, closes, between, sends_end, awaits_ack, checks_end, sends_ack, was_closed, streams, side_state}
-use Rattle.xr_channels.specs.ChannelSteps.{parcels, moved_to, LateKind, is_taken, is_opening, is_closing, is_offer, is_word}
+use Rattle.xr_channels.specs.ChannelSteps.{parcels, moved_to, LateKind, is_answer, is_opening, is_closing, is_offer, is_sent_word}
 use Rattle.xr_channels.specs.Channels.{Links, end_of_side, Ghosts, start_ghosts, IsWired}
 use Rattle.xr_channels.specs.Balance.{Local}
 use Rattle.xr_channels.specs.CreditsOverLinks.{BalancedOverLinks}
@@ -89,7 +89,7 @@ pub record TransferRows (at : SideEnd) (t : ℕ) (thread : Thread) : Type 0 wher
       (SentNext at t thread (END ∷ []) at.boxes (side_state (awaits_ack (offers v)) i) (late_now at))
   -- CHKCT ACK: the answer is taken
   pub check_ack : (v : ℕ) (i : Bool) → StandsAt at (side_state (awaits_ack (offers v)) i) →
-      CheckRow at t thread 3 taken is_taken (without_first at) (side_state between i)
+      CheckRow at t thread 3 taken is_answer (without_first at) (side_state between i)
   -- IN: the offer is taken and answered
   pub in_offer : (d : Reg) → StandsAt at (side_state between false) →
       InputRow at t thread d offer is_offer (answered at) (side_state checks_end false) []
@@ -110,13 +110,13 @@ pub record TransactionRows (at : SideEnd) (t : ℕ) (thread : Thread) : Type 0 w
       CheckRow at t thread 16 opening is_opening (answered at) (side_state sends_ack true)
   -- the OUTCT ACK behind it is that of an input; a master's CHKCT ACK, at its start and its end: the answer is taken
   pub check_ack : (q : Question) (i : Bool) → StandsAt at (side_state (awaits_ack q) i) →
-      CheckRow at t thread 3 taken is_taken (without_first at) (side_state between i)
+      CheckRow at t thread 3 taken is_answer (without_first at) (side_state between i)
   -- OUT inside: the word is put
   pub out_word : (v : ℕ) → StandsAt at (side_state between true) →
       SendRow at t thread (word_tokens v) (SentNext at t thread (word_tokens v) (with_parcel at (word v)) (side_state between true) [])
   -- IN inside: it is taken
   pub in_word : (d : Reg) → StandsAt at (side_state between true) →
-      InputRow at t thread d word is_word (without_first at) (side_state between true) []
+      InputRow at t thread d word is_sent_word (without_first at) (side_state between true) []
   -- a master's OUTCT END: the closing is put
   pub out_end : StandsAt at (side_state between true) →
       SendRow at t thread (END ∷ [])
@@ -136,7 +136,7 @@ pub record StreamRows (at : SideEnd) (t : ℕ) (thread : Thread) : Type 0 where
       (Begins at t thread (word_tokens v) (word v) (side_state streams true) (side_state streams true) (late_now at ++ word v ∷ []))
   -- IN: it is taken
   pub in_word : (d : Reg) → StandsAt at (side_state streams true) →
-      InputRow at t thread d word is_word (without_first at) (side_state streams true) (late_now at)
+      InputRow at t thread d word is_sent_word (without_first at) (side_state streams true) (late_now at)
 
 -- Each row of these pauses, goes on or traps, and keeps what stands between the sides of all channels, wherever the other end is.
 abbrev pub TransfersAreFollowed : Type 0
@@ -152,7 +152,7 @@ StreamsAreFollowed = (at : SideEnd) (t : ℕ) (thread : Thread) → StreamRows a
 abbrev pub TrapsPut : Type 0
 TrapsPut =
     (at : SideEnd) (q : Question) (i : Bool) (x : Parcel) (rest : List Parcel) (y : Parcel) (ps : List Parcel) →
-    StandsAt at (side_state (awaits_ack q) i) → late_now at ≡ x ∷ rest → Finds at (y ∷ ps) → is_taken y ≡ false →
+    StandsAt at (side_state (awaits_ack q) i) → late_now at ≡ x ∷ rest → Finds at (y ∷ ps) → is_answer y ≡ false →
     (then_inside : Bool) × LateKind (awaits_ack q) i x rest then_inside ×
     ChannelsOverLinks at.pairs at.cores at.links (with_parcel at x)
     (moved_to at.ghosts at.line at.side (side_state (awaits_ack q) then_inside) rest)

@@ -4,7 +4,7 @@ use Rattle.std.specs.Prelude.{◌⊎◌, not, nat_eq, ◌||◌}
 use Rattle.xs_instr.specs.declared.state.Token.{Token}
 use Rattle.xs_instr.specs.Ends.{word_tokens, control_token, data_token, Passed, Other, NotThere, check, Word, Control, NotYet, take_word}
 use Rattle.xc_meaning.specs.States.Channels.{Parcel, offer, opening, word, closing, taken}
-pub use Rattle.xr_channels.specs.ChannelSteps.{is_taken, is_opening, is_closing, is_offer, is_word}
+pub use Rattle.xr_channels.specs.ChannelSteps.{is_answer as is_taken, is_opening, is_closing, is_offer, is_sent_word as is_word}
 use Rattle.xr_channels.specs.Phases.{END, ACK, OPEN, Question, Phase, between, sends_end, awaits_ack, checks_end, sends_ack, was_closed, streams, SideState, side_state, encodes, unread, ahead, switches_mode, Path, Direction, Transit}
 
 -- CHKCT: nothing is there; or the first parcel is the one that is awaited, and the token too; or both are others
