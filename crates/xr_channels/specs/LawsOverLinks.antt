@@ -18,7 +18,7 @@ use Rattle.xs_instr.specs.Valid.{Valid}
 use Rattle.xc_meaning.specs.States.Channels.{Parcel, offer, opening, word, closing, taken, Side, Inboxes}
 use Rattle.xr_channels.specs.Phases.{END, ACK, OPEN, Question, offers, opens, closes, between, sends_end, awaits_ack, checks_end, sends_ack, was_closed, streams, side_state}
 use Rattle.xr_channels.specs.ChannelSteps.{parcels, moved_to, LateKind, is_answer, is_opening, is_closing, is_offer, is_sent_word}
-use Rattle.xr_channels.specs.Channels.{Links, end_of_side, Ghosts, start_ghosts, IsWired}
+use Rattle.xr_channels.specs.Channels.{Links, ends_in, end_of_side, Ghosts, start_ghosts, IsWired}
 use Rattle.xr_channels.specs.Balance.{Local}
 use Rattle.xr_channels.specs.CreditsOverLinks.{BalancedOverLinks}
 use Rattle.xr_channels.specs.ChannelsOverLinks.{ChannelsOverLinks, Delivered}
@@ -32,6 +32,13 @@ ChannelsBeginOverLinks =
     ((k : ℕ) (p : Pair) → slice_get L.chans k ≡ Some p → k < length inboxes) →
     ChannelsOverLinks L.chans (boot L).cores (boot L).links inboxes (start_ghosts streaming)
 
+-- A step that leaves the ends of all cores, as a tick and a trap do, keeps what stands between the sides of channels.
+abbrev pub OthersKeepChannels : Type 0
+OthersKeepChannels =
+    (pairs : List Pair) (cores cores' : List CoreState) (links : Links) (inboxes : List Inboxes) (g : Ghosts) →
+    ((c : ℕ) → ends_in (slice_get cores' c) ≡ ends_in (slice_get cores c)) →
+    ChannelsOverLinks pairs cores links inboxes g → ChannelsOverLinks pairs cores' links inboxes g
+
 -- What comes over a link keeps what stands between the sides of channels, with what the program does then.
 abbrev pub DeliveriesAreFollowed : Type 0
 DeliveriesAreFollowed =
@@ -42,6 +49,12 @@ DeliveriesAreFollowed =
 -- no link has an item
 abbrev pub AreEmpty : Links → Type 0
 AreEmpty links = (a b : ℕ) → link_of links a b ≡ []
+
+-- Where no delivery can happen, nothing is on any link.
+abbrev pub NoMoveIsQuiet : Type 0
+NoMoveIsQuiet =
+    (L : Image) (s : Stim) (m : Machine) → BalancedOverLinks L.chans m.cores m.links →
+    ((a b : ℕ) → does L s m (Move a b) ≡ None) → AreEmpty m.links
 
 -- Where nothing is on any link nothing is late.
 abbrev pub QuietIsOnTime : Type 0

@@ -1,7 +1,7 @@
 //! The laws, as contracts of functions that do nothing.
 
 ghost use Rattle.xr_channels.specs.Laws.{ChannelsBegin, CreditsAreKept, CreditsBegin, EndsAgree, NoneReady};
-ghost use Rattle.xr_channels.specs.LawsOverLinks.{ChannelsBeginOverLinks, DeliveriesAreFollowed, QuietIsLocal, QuietIsOnTime, RowsKeepCredits, StreamsAreFollowed, TransactionsAreFollowed, TransfersAreFollowed, TrapsPut};
+ghost use Rattle.xr_channels.specs.LawsOverLinks.{ChannelsBeginOverLinks, DeliveriesAreFollowed, NoMoveIsQuiet, OthersKeepChannels, QuietIsLocal, QuietIsOnTime, RowsKeepCredits, StreamsAreFollowed, TransactionsAreFollowed, TransfersAreFollowed, TrapsPut};
 
 /// Where a machine and a program start, nothing stands between the sides of any channel.
 pub fn channels_begin()
@@ -34,7 +34,7 @@ pub fn credits_over_links()
 /// Wherever the two ends of each channel are, on one core or on two, what stands between the sides of all channels, with the law of
 /// credits, holds where a machine and a program start. It is kept, with the program's step, by what comes over a link, and by each row
 /// of a plain transfer, a transaction and a stream, which pauses, goes on or traps. A side that traps as it awaits an answer puts first
-/// what is late of what it asked.
+/// what is late of what it asked. Each step that leaves the ends of all cores keeps it too.
 pub fn channels_over_links()
     ensures at_the_start { ChannelsBeginOverLinks }
     ensures by_deliveries { DeliveriesAreFollowed }
@@ -42,10 +42,13 @@ pub fn channels_over_links()
     ensures by_transactions { TransactionsAreFollowed }
     ensures by_streams { StreamsAreFollowed }
     ensures by_traps { TrapsPut }
+    ensures by_others { OthersKeepChannels }
 {}
 
-/// While nothing is on any link, nothing is late, and what stands between the sides of channels is what stands within cores.
+/// Where no delivery can happen nothing is on any link. Then nothing is late, and what stands between the sides of channels is what
+/// stands within cores.
 pub fn quiet_channels()
+    ensures where_nothing_moves { NoMoveIsQuiet }
     ensures on_time { QuietIsOnTime }
     ensures within_cores { QuietIsLocal }
 {}

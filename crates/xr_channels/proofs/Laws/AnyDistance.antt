@@ -1,5 +1,5 @@
 -- The laws of channels whose ends are on any cores.
-use Rattle.std.proofs.Common.{◌≡◌, ◌≤◌, ℕ, Bool, true, false, List, [], ◌∷◌, length, Option, Some, None, refl, sym, ap, subst, arith}
+use Rattle.std.proofs.Common.{◌≡◌, ◌<◌, ◌≤◌, ℕ, Bool, true, false, List, [], ◌∷◌, length, Option, Some, None, refl, sym, ap, subst, arith}
 use Rattle.std.specs.Prelude.{slice_get, slice_set, nat_le}
 use Rattle.std.proofs.lemmas.Bool.{leb-true}
 use Rattle.xs_instr.specs.declared.image.Home.{Home}
@@ -12,17 +12,17 @@ use Rattle.xs_instr.specs.declared.state.Token.{Token}
 use Rattle.xs_instr.specs.declared.trace.Record.{Record}
 use Rattle.xs_instr.specs.declared.trace.Record.TheVariants.{Com}
 use Rattle.xs_instr.specs.Did.{Given, Made}
-use Rattle.xs_instr.specs.Ends.{Gone, Taken, Word, Control, NotYet, Checked, Passed, Other, NotThere, outs_by, word_in, byte_in, check_in, take_word, word_unless, first_control, take_byte, byte_by, check, tokens_go, tokens_taken, peer_of, given_ends}
+use Rattle.xs_instr.specs.Ends.{Peer, Gone, Taken, Word, Control, NotYet, Checked, Passed, Other, NotThere, outs_by, word_in, byte_in, check_in, take_word, word_unless, first_control, take_byte, byte_by, check, tokens_go, tokens_taken, peer_of, given_ends}
 use Rattle.xs_instr.specs.Machine.{Machine, link_of, link_put, on_links, came, move_to, move_at}
 use Rattle.xc_meaning.specs.States.Channels.{Side}
-use Rattle.xr_channels.specs.Channels.{Links, end_of_side, IsWired}
+use Rattle.xr_channels.specs.Channels.{Links, ends_in, end_of_side, IsWired}
 use Rattle.xr_channels.specs.Phases.{offers}
-use Rattle.xr_channels.specs.CreditsOverLinks.{BalancedOverLinks}
+use Rattle.xr_channels.specs.CreditsOverLinks.{end_of_item, ComesFrom, AllCome, BalancedOverLinks}
 use Rattle.xr_channels.specs.ChannelsOverLinks.{Delivered}
 use Rattle.xr_channels.specs.SideRows.{IsSideEnd}
-use Rattle.xr_channels.specs.LawsOverLinks.{ChannelsBeginOverLinks, DeliveriesAreFollowed, QuietIsOnTime, QuietIsLocal, UsesEnd, sends, takes_word, takes_byte, takes_control, RowsKeepCredits, TransfersAreFollowed, TransactionsAreFollowed, StreamsAreFollowed, TrapsPut}
+use Rattle.xr_channels.specs.LawsOverLinks.{ChannelsBeginOverLinks, OthersKeepChannels, DeliveriesAreFollowed, NoMoveIsQuiet, QuietIsOnTime, QuietIsLocal, UsesEnd, sends, takes_word, takes_byte, takes_control, RowsKeepCredits, TransfersAreFollowed, TransactionsAreFollowed, StreamsAreFollowed, TrapsPut}
 use Rattle.xr_channels.proofs.All.Moves.{delivered}
-use Rattle.xr_channels.proofs.All.OverLinks.{over_begins, quiet_on_time, quiet_local}
+use Rattle.xr_channels.proofs.All.OverLinks.{over_begins, over_same, quiet_on_time, quiet_local}
 use Rattle.xr_channels.proofs.All.SideEnds as any
 use Rattle.xr_channels.proofs.All.Wired.{valid_wired}
 use Rattle.xr_channels.proofs.Laws.BalancesOverLinks.{sent_keeps, taken_keeps}
@@ -48,6 +48,28 @@ deliveries_followed L s valid m m' a b e inboxes g over = by (link_of m.links a 
     by : (items : List Item) → link_of m.links a b ≡ items → move_at m a b items ≡ Some m' → Delivered L.chans a b m'.cores m'.links inboxes g
     by [] is f = cc
     by (i ∷ rest) is f = at_core i rest is (slice_get m.cores b) refl f
+
+-- by another step
+pub others_keep : OthersKeepChannels
+others_keep pairs cores cores' links inboxes g same over = over_same pairs cores links inboxes g over cores' same
+
+-- An item on a link would come: its core is there.
+pub no_move_is_quiet : NoMoveIsQuiet
+no_move_is_quiet L s m balanced none a b = by (link_of m.links a b) refl (none a b)
+  where
+    there : (e : ℕ) → ComesFrom L.chans a b e → slice_get m.cores b ≡ None → ⊥
+    there e comes gone =
+        let lt : e < length (ends_in (slice_get m.cores b)) = subst (λ (q : Peer). q.end < length (ends_in (slice_get m.cores q.core))) comes.to (balanced.ends comes.channel comes.pair comes.side comes.here) in
+        let size = ap (λ o. length (ends_in o)) gone in
+        omega (arith, lt, size)
+
+    at_core : (i : Item) (rest : List Item) → link_of m.links a b ≡ i ∷ rest → (o : Option CoreState) → slice_get m.cores b ≡ o → move_to m a b i rest o ≡ None → ⊥
+    at_core i rest is None at f = there (end_of_item i.moved) (subst (AllCome L.chans a b) is (balanced.come a b)).0 at
+    at_core i rest is (Some core) at f = cc
+
+    by : (items : List Item) → link_of m.links a b ≡ items → move_at m a b items ≡ None → link_of m.links a b ≡ []
+    by [] is f = is
+    by (i ∷ rest) is f = absurd (at_core i rest is (slice_get m.cores b) refl f)
 
 -- with nothing on any link
 pub quiet_is_on_time : QuietIsOnTime

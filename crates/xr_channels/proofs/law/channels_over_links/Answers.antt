@@ -1,5 +1,5 @@
 use Rattle.xr_channels.proofs.law.channels_over_links.Goals as goal
-use Rattle.xr_channels.proofs.Laws.AnyDistance.{channels_begin, deliveries_followed, transfers_followed, transactions_followed, streams_followed, traps_put}
+use Rattle.xr_channels.proofs.Laws.AnyDistance.{others_keep, channels_begin, deliveries_followed, transfers_followed, transactions_followed, streams_followed, traps_put}
 
 pub returns-clause-at_the_start : goal.returns-clause-at_the_start
 returns-clause-at_the_start c = channels_begin
@@ -18,3 +18,6 @@ returns-clause-by_streams c = streams_followed
 
 pub returns-clause-by_traps : goal.returns-clause-by_traps
 returns-clause-by_traps c = traps_put
+
+pub returns-clause-by_others : goal.returns-clause-by_others
+returns-clause-by_others c = others_keep
