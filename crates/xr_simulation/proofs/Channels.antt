@@ -20,3 +20,4 @@ pub mod TransferErrs
 pub mod OwnTransfers
 pub mod Advances
 pub mod SelectEnds
+pub mod Deliveries

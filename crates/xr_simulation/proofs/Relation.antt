@@ -13,7 +13,6 @@ pub mod Sums
 pub mod Reserves
 pub mod PortDeclarations
 pub mod Sizes
-pub mod Links
 pub mod Sides
 pub mod Events
 pub mod Moments

@@ -4,7 +4,7 @@ use Rattle.xs_instr.specs.declared.state.CoreState.{CoreState}
 use Rattle.xs_instr.specs.declared.state.Mode.{Mode as ThreadMode}
 use Rattle.xs_instr.specs.declared.state.Mode.TheVariants.{Running, Trapped, Waiting}
 use Rattle.xs_instr.specs.declared.state.Thread.{Thread}
-use Rattle.xs_instr.specs.Machine.{no_links, parts_in}
+use Rattle.xs_instr.specs.Machine.{parts_in}
 use Rattle.xc_kernel.specs.declared.kernel.PortUse.{PortUse}
 use Rattle.xc_kernel.specs.Things.{variable}
 use Rattle.xc_meaning.specs.Counts.KernelCounts.{kernel_bound}
@@ -176,13 +176,12 @@ pub record IsRun (who : Roles) (b : ℕ) : Type 0 where
 abbrev pub IsMade : (roots : ℕ) → List Branch → (b : ℕ) → Type 0
 IsMade roots bs b = (b < roots) ⊎ ((n : ℕ) × IsChild bs n b)
 
--- The two sides have the same clocks and trace, nothing is on its way between cores, each thread does what it should, the channels are wired so, and as many
--- roots as branches of roots go on. Some threads may stand at rest.
+-- The two sides have the same clocks and trace, each thread does what it should, the channels are wired so, whatever is on links, and as
+-- many roots as branches of roots go on. Some threads may stand at rest.
 pub record MatchStates
     (g : Setting) (may_rest : (core thread : ℕ) → Bool) (who : Roles) (w : Watched) (x : Counted (of_kernel g.program)) : Type 0 where
   pub clocks : map clock_of w.machine.cores ≡ x.state.clocks
   pub trace : w.machine.trace ≡ x.state.trace
-  pub links : w.machine.links ≡ no_links
   pub cores : length w.machine.cores ≡ 4
   pub lawful : Lawful g.program x.state
   pub plain : ArePlain x.state.branches

@@ -16,9 +16,13 @@ pub record Transfer : Type 0 where
   -- what its branch has still to put in the other side's inbox of what the thread has sent, since that is on a link
   pub late : List Parcel
 
+-- of these parts
+abbrev pub owing : (channel : ℕ) → Side → Phase → (late : List Parcel) → Transfer
+owing channel side phase late = record { channel = channel; side = side; phase = phase; late = late }
+
 -- with nothing late, as always within a core
 abbrev pub in_phase : (channel : ℕ) → Side → Phase → Transfer
-in_phase channel side phase = record { channel = channel; side = side; phase = phase; late = [] }
+in_phase channel side phase = owing channel side phase []
 
 -- the steps of the protocol that are left to a thread that has begun it
 abbrev pub acts_left : Phase → List Act
@@ -62,11 +66,11 @@ items_behind (sends_end v) items = all_but_first items
 items_behind (awaits_ack q) items = all_but_first items
 items_behind phase items = items
 
--- a thread that has trapped in a transfer was waiting for the answer to its offer
+-- a thread that has trapped in a transfer was waiting for the answer to its offer, of which nothing is late then
 abbrev pub IsAwaiting : Phase → Type 0
 IsAwaiting (awaits_ack (offers v)) = Unit {0}
 IsAwaiting phase = ⊥
 
 abbrev pub StopsIn : Option Transfer → Type 0
 StopsIn None = Unit {0}
-StopsIn (Some transfer) = IsAwaiting transfer.phase
+StopsIn (Some transfer) = IsAwaiting transfer.phase × (transfer.late ≡ [])

@@ -15,9 +15,9 @@ use Rattle.xr_match.specs.Sides.{two_sided}
 use Rattle.xr_simulation.specs.Roles.{Roles, used_by}
 use Rattle.xr_simulation.specs.Runners.{Setting, Runner}
 use Rattle.xr_simulation.specs.Transfers.{Transfer}
-use Rattle.xr_channels.specs.Balance.{Local}
 use Rattle.xr_channels.specs.Phases.{SideState, between, side_state}
 use Rattle.xr_channels.specs.Channels.{Ghosts}
+use Rattle.xr_channels.specs.ChannelsOverLinks.{ChannelsOverLinks}
 
 -- the inboxes of the channels with two sides, in the order of the image's lines
 abbrev pub boxes_in : kernel.Kernel → List Inboxes → List Inboxes
@@ -50,15 +50,16 @@ pub data SideIs (g : Setting) (who : Roles) (c : ℕ) (side : Side) (at : SideSt
       SideIs g who c side at late
 
 -- The one relation of all channels: a side of a channel stands where the thread does that has begun a transfer on it, and else in no piece; and
--- there is at most one such thread. It is on the core of the channel's sides. Where each side of a line stands is a ghost: the machine
--- has tokens and credits alone, and a thread outside a transfer tells nothing of which side it was on.
+-- there is at most one such thread. It is on the side's core, and the other side may be on another one: then tokens and credits are on
+-- links. Where each side of a line stands is a ghost: the machine has tokens and credits alone, and a thread outside a transfer tells
+-- nothing of which side it was on.
 pub record AreWired (g : Setting) (who : Roles) (m : Machine) (x : World) : Type 0 where
   pub ghosts : Ghosts
-  pub local : Local g.image.chans m.cores (boxes_in g.program x.inboxes) ghosts
+  pub over : ChannelsOverLinks g.image.chans m.cores m.links (boxes_in g.program x.inboxes) ghosts
   pub long : length x.inboxes ≡ length g.program.channels
   pub ends : (c : ℕ) (a : CoreState) → slice_get m.cores c ≡ Some a → length a.ends ≡ (parts_in g.image.cores c).ends
   pub listed : (core thread c : ℕ) (side : Side) → IsTransferring who core thread c side →
-      (line : ℕ) × IsLine g.program line c × AreSidesOn g.program c core
+      (line : ℕ) × IsLine g.program line c × (core_of g.program c side ≡ core)
   pub stances : (line c : ℕ) (side : Side) → IsLine g.program line c →
       SideIs g who c side (ghosts.side_states line side) (ghosts.late line (other_side side))
   pub one : (core thread core' thread' c : ℕ) (side : Side) → IsTransferring who core thread c side → IsTransferring who core' thread' c side →

@@ -1,8 +1,10 @@
--- A thread takes a step of a transfer for which the program does nothing: it is in another phase of it, or in none.
+-- A thread takes a step of a transfer for which the program does nothing: it is in another phase of it, or in none. Tokens and credits may go
+-- on links with it.
 use Rattle.std.proofs.Common.{◌≡◌, ℕ, ◌≤◌, ◌≢◌, inl, inr, [], length, Option, Some, None, refl, sym, ap, ◌∙◌, subst, ⊎_elim, eq-eqb}
 use Rattle.std.specs.Prelude.{Bool, true, false, List, ◌∷◌, slice_get}
 use Rattle.std.proofs.lemmas.Bool.{eqb-true, ne_eqb}
 use Rattle.xs_instr.specs.declared.state.CoreState.{CoreState}
+use Rattle.xs_instr.specs.declared.state.Sent.{Sent}
 use Rattle.xs_instr.specs.declared.state.Thread.{Thread}
 use Rattle.xc_disjoint.specs.Needs.{threads_on}
 use Rattle.xc_meaning.specs.States.Branches.{Branch, has_ended}
@@ -26,7 +28,7 @@ use Rattle.xr_simulation.proofs.Relation.Reserves.{GiveAsBefore, reserves_of_oth
 use Rattle.xr_simulation.proofs.Relation.Seats.{IsSeated, role_cases, role_far, role_here, role_other, roles_go_on, with_role}
 use Rattle.xr_simulation.proofs.RelyGuarantee.SilentSteps.{loose_still}
 use Rattle.xr_simulation.proofs.Relation.Lasting.{Follows, told_by}
-use Rattle.xr_simulation.proofs.Relation.Events.{answered, clocks_still, far_steps_still, has_stepped, steps_still, watched}
+use Rattle.xr_simulation.proofs.Relation.Events.{answered, clocks_still, far_steps_as_long, has_sent, steps_as_long, watched_sending}
 use Rattle.xr_simulation.proofs.Relation.Usage.{OthersUsed, used_on}
 
 -- What such a step leaves of the core: all but the thread and the ends of channels.
@@ -37,7 +39,7 @@ pub record Advance (g : Setting) (r : Runner) (a left : CoreState) : Type 0 wher
   pub tied : (thread : Thread) → slice_get left.threads r.thread ≡ Some thread → thread.tie ≡ r.tie
 
 module _ {moment : Moment none_rests} (thread_at : ThreadAt moment None)
-    (left : CoreState) (e : Advance moment.setting thread_at.runner thread_at.state left) (next : Option Transfer) where
+    (left : CoreState) (e : Advance moment.setting thread_at.runner thread_at.state left) (next : Option Transfer) (sent : List Sent) where
   open moment use {setting as g, image as is, roles as who, watched as w, told as x, standing as st}
   open thread_at use {core as c, thread as t, state as a, at_core as at_c, runner as r, runs as runs_r}
 
@@ -77,7 +79,7 @@ module _ {moment : Moment none_rests} (thread_at : ThreadAt moment None)
   who_next = with_role who c t (used_by s None)
 
   abbrev pub watched_next : Watched
-  watched_next = watched thread_at (only_thread t) (eq-eqb t t refl) left x.state effect None
+  watched_next = watched_sending thread_at (only_thread t) (eq-eqb t t refl) left x.state effect None sent
 
   seated : IsSeated s r
   seated = record {
@@ -191,7 +193,7 @@ module _ {moment : Moment none_rests} (thread_at : ThreadAt moment None)
           world = x.state;
           acted = refl;
           standing = answered thread_at o self left x.state effect may_rest' who_next watched_next []
-              (has_stepped thread_at o self left x.state effect None (e.guarantee x.state).sizes)
+              (has_sent thread_at o self left x.state effect None sent (e.guarantee x.state).sizes)
               (record {
                 acted = refl;
                 clocks = clocks_still thread_at o self left x.state effect None;
@@ -206,8 +208,8 @@ module _ {moment : Moment none_rests} (thread_at : ThreadAt moment None)
                 far_role = λ d u ne. role_far who c t (used_by s None) d u ne;
                 rests = λ u m none. absurd (false_true none);
                 far_rests = λ d u ne none. absurd (false_true none);
-                steps = λ u m. steps_still thread_at o self left x.state effect None u m;
-                far_steps = λ d u ne. far_steps_still thread_at o self left x.state effect None d u ne;
+                steps = λ u m. steps_as_long thread_at o self left x.state effect None sent u m;
+                far_steps = λ d u ne. far_steps_as_long thread_at o self left x.state effect None sent d u ne;
                 stand = own_stand;
                 loose = loose;
                 roots = e.roots ∙ st.roots c a at_c;
@@ -215,7 +217,6 @@ module _ {moment : Moment none_rests} (thread_at : ThreadAt moment None)
                 placed = st.placed;
                 run = run;
                 made = st.made;
-                links = st.links;
                 wired = wired;
                 alone = own_alone;
               });

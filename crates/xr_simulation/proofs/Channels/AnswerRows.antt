@@ -2,6 +2,7 @@
 use Rattle.std.proofs.Common.{◌≡◌, ℕ, ◌+◌, ◌≤◌, inr, List, [], ◌∷◌, length, Some, None, refl, sym, ap, ◌∙◌, subst, arith}
 use Rattle.std.specs.Prelude.{false, nat_eq, slice_index_or}
 use Rattle.xs_instr.specs.declared.state.ChanEnd.{ChanEnd}
+use Rattle.xs_instr.specs.declared.state.Sent.{Sent}
 use Rattle.xs_instr.specs.declared.trace.Trap.TheVariants.{Mismatch}
 use Rattle.xs_instr.specs.Did.{Made, Traps}
 use Rattle.xs_instr.specs.Slot.{slot}
@@ -17,7 +18,7 @@ use Rattle.xr_simulation.specs.Transfers.{StopsIn, all_but_first, in_phase}
 use Rattle.xr_simulation.specs.NextStep.{Errs, InTransfer, IsBehind, Runs, cost}
 use Rattle.xr_simulation.specs.Wired.{boxes_in}
 use Rattle.xr_simulation.proofs.Channels.Worlds.{answered, answered_boxes, awaiting_errs, takes_answer}
-use Rattle.xr_simulation.proofs.Channels.EndRows.{AtEnd, Goal, acts_row, boxes_taken, checks_row, goes_out, inside_there, near_end, taken_there}
+use Rattle.xr_simulation.proofs.Channels.EndRows.{AtEnd, Goal, acts_row, boxes_taken, checks_row, goes_out, inside_there, side_end, taken_there}
 use Rattle.xr_simulation.proofs.Channels.EndSteps.{gone_on}
 use Rattle.xr_simulation.proofs.ItemCode.Evaluations.{err_acts}
 use Rattle.xr_simulation.proofs.Relation.Moments.{BranchAt, Moment, ThreadAt}
@@ -31,8 +32,8 @@ use Rattle.xr_simulation.proofs.RelyGuarantee.Phases.{rest_as}
 use Rattle.xr_simulation.proofs.RelyGuarantee.Events.{here_at}
 use Rattle.xr_channels.specs.Phases.{awaits_ack, between, offers, side_state}
 use Rattle.xr_channels.proofs.All.Frames.{boxed, length_box, parcels}
-use Rattle.xr_channels.proofs.All.Near as near
-use Rattle.xr_channels.proofs.All.Near.{Next}
+use Rattle.xr_channels.proofs.All.SideEnds as rows
+use Rattle.xr_channels.specs.SideRows.{Next}
 use Rattle.xr_channels.proofs.Sides.Found.{is_taken}
 
 module _ {moment : Moment none_rests} {thread_at : ThreadAt moment None} (branch_at : BranchAt thread_at)
@@ -45,8 +46,8 @@ module _ {moment : Moment none_rests} {thread_at : ThreadAt moment None} (branch
   open thread_at use {core as c, thread as t, state as a, at_core as at_c, runner as r, runs as runs_r}
   open branch_at use {branch, known, stand}
 
-  abbrev at_end : AtEnd thread_at channel side (awaits_ack (offers v))
-  at_end = inside_there thread_at channel side (awaits_ack (offers v)) its
+  abbrev at_end : AtEnd thread_at channel side (awaits_ack (offers v)) []
+  at_end = inside_there thread_at channel side (awaits_ack (offers v)) [] its
 
   -- the branch, which waits for the answer
   abbrev rest : List Item
@@ -111,11 +112,11 @@ module _ {moment : Moment none_rests} {thread_at : ThreadAt moment None} (branch
                 })),
           )))
 
-    made_so : (es : List ChanEnd) → slot (home g r) a r.thread ≡ Made (left does_answer es) None [] →
-        Next (near_end branch_at at_end) r.thread (running r.tie h.pc h.regs) (left does_answer es) (taken_there branch_at at_end ps)
-        (side_state between false) → Goal branch_at at_end
+    made_so : (es : List ChanEnd) (sent : List Sent) → slot (home g r) a r.thread ≡ Made (left does_answer es) None sent →
+        Next (side_end branch_at at_end) (left does_answer es) sent (taken_there branch_at at_end ps)
+        (side_state between false) [] → Goal branch_at at_end
     made_so =
-        acts_row branch_at at_end does_answer between (goes_out refl refl) (rests_alone c t) (λ d u ne. alone_elsewhere c (nat_eq u t) d ne)
+        acts_row branch_at at_end does_answer between [] (goes_out refl refl refl) (rests_alone c t) (λ d u ne. alone_elsewhere c (nat_eq u t) d ne)
         j (j + cost g r) (omega (arith, few)) (omega arith) (taken_there branch_at at_end ps)
         (ap (boxes_in g.program) world_boxes ∙ boxes_taken branch_at at_end ps)
         (ap length world_boxes ∙ length_box x.state.inboxes channel _) at_rest
@@ -140,5 +141,5 @@ module _ {moment : Moment none_rests} {thread_at : ThreadAt moment None} (branch
   pub answer_followed : Goal branch_at at_end
   answer_followed =
       checks_row branch_at at_end h.pc h.regs h.here h.pos 3 taken is_taken (taken_there branch_at at_end) between h.steps.0
-      (near.chkct_ack (near_end branch_at at_end) r.thread (running r.tie h.pc h.regs) (offers v) false at_end.stands)
-      made_so (λ p ps found wrong traps. errs_followed branch_at (subst StopsIn (sym its) tt) (errs p ps found wrong traps))
+      (rows.chkct_ack (side_end branch_at at_end) r.thread (running r.tie h.pc h.regs) (offers v) false at_end.stands)
+      made_so (λ p ps found wrong traps. errs_followed branch_at (subst StopsIn (sym its) (tt, refl)) (errs p ps found wrong traps))

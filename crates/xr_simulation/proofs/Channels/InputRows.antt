@@ -5,6 +5,7 @@ use Rattle.std.specs.Prelude.{false}
 use Rattle.xs_instr.specs.declared.state.ChanEnd.{ChanEnd}
 use Rattle.xs_instr.specs.declared.instr.Reg.TheVariants.{R0}
 use Rattle.xs_instr.specs.declared.state.Regs.{Regs}
+use Rattle.xs_instr.specs.declared.state.Sent.{Sent}
 use Rattle.xs_instr.specs.declared.trace.Record.TheVariants.{Com}
 use Rattle.xs_instr.specs.declared.trace.Trap.TheVariants.{Mismatch}
 use Rattle.xs_instr.specs.Did.{Made, Traps}
@@ -22,7 +23,7 @@ use Rattle.xr_simulation.specs.Transfers.{AwaitsNothing, StopsIn, Transfer, in_p
 use Rattle.xr_simulation.specs.NextStep.{Communicates, Errs, InTransfer, cost, takes_in}
 use Rattle.xr_simulation.specs.Wired.{boxes_in}
 use Rattle.xr_simulation.proofs.Channels.Worlds.{input_errs, received, received_boxes, takes_offer}
-use Rattle.xr_simulation.proofs.Channels.EndRows.{AtEnd, Goal, acts_row, answered_there, boxes_answered, near_end, stays_in, word_row}
+use Rattle.xr_simulation.proofs.Channels.EndRows.{AtEnd, Goal, acts_row, answered_there, boxes_answered, side_end, stays_in, word_row}
 use Rattle.xr_simulation.proofs.Channels.EndSteps.{gone_on}
 use Rattle.xr_simulation.proofs.ItemCode.Evaluations.{err_acts}
 use Rattle.xr_simulation.proofs.ItemCode.Items.{storing_fits}
@@ -37,8 +38,8 @@ use Rattle.xr_simulation.proofs.RelyGuarantee.Phases.{inside_as}
 use Rattle.xr_simulation.proofs.RelyGuarantee.Events.{nothing_unwatched}
 use Rattle.xr_channels.specs.Phases.{between, checks_end, side_state}
 use Rattle.xr_channels.proofs.All.Frames.{boxed, length_box, parcels}
-use Rattle.xr_channels.proofs.All.Near as near
-use Rattle.xr_channels.proofs.All.Near.{Next}
+use Rattle.xr_channels.proofs.All.SideEnds as rows
+use Rattle.xr_channels.specs.SideRows.{Next}
 use Rattle.xr_channels.proofs.Sides.Found.{is_offer}
 
 -- a word that has come in is to be stored, where there is a place for it
@@ -55,7 +56,7 @@ module _ {moment : Moment none_rests} {thread_at : ThreadAt moment None} (branch
   open thread_at use {core as c, thread as t, state as a, at_core as at_c, runner as r, runs as runs_r}
   open branch_at use {branch, known, stand}
 
-  abbrev at_end : AtEnd thread_at h.on.channel h.on.side between
+  abbrev at_end : AtEnd thread_at h.on.channel h.on.side between []
   at_end = start.at_end branch_at on none (takes_in i) j h
 
   stands : side_of branch h.on.channel ≡ Some h.on.side
@@ -139,11 +140,11 @@ module _ {moment : Moment none_rests} {thread_at : ThreadAt moment None} (branch
             (transfer_shrinks g r items (less does_input es) transfer j (behind does_input es) inside),
       )
 
-    made_so : (es : List ChanEnd) → slot (home g r) a r.thread ≡ Made (left does_input es) (Some (Com r.core v)) [] →
-        Next (near_end branch_at at_end) r.thread (running r.tie h.pc h.regs) (left does_input es) (answered_there branch_at at_end ps)
-        (side_state checks_end false) → Goal branch_at at_end
+    made_so : (es : List ChanEnd) (sent : List Sent) → slot (home g r) a r.thread ≡ Made (left does_input es) (Some (Com r.core v)) sent →
+        Next (side_end branch_at at_end) (left does_input es) sent (answered_there branch_at at_end ps)
+        (side_state checks_end false) [] → Goal branch_at at_end
     made_so =
-        acts_row branch_at at_end does_input checks_end (stays_in refl) none_rests (λ d u ne. refl) j (2 + j + cost g r) few (omega arith)
+        acts_row branch_at at_end does_input checks_end [] (stays_in refl) none_rests (λ d u ne. refl) j (2 + j + cost g r) few (omega arith)
         (answered_there branch_at at_end ps) (ap (boxes_in g.program) world_boxes ∙ boxes_answered branch_at at_end ps) as_many
         stands_inside
 
@@ -168,6 +169,6 @@ module _ {moment : Moment none_rests} {thread_at : ThreadAt moment None} (branch
 
   pub input_followed : Goal branch_at at_end
   input_followed =
-      word_row branch_at at_end h.pc h.regs h.here i.pos R0 offer is_offer (answered_there branch_at at_end) checks_end h.steps.0
-      (near.in_plain (near_end branch_at at_end) r.thread (running r.tie h.pc h.regs) R0 at_end.stands)
+      word_row branch_at at_end h.pc h.regs h.here i.pos R0 offer is_offer (answered_there branch_at at_end) checks_end [] h.steps.0
+      (rows.in_plain (side_end branch_at at_end) r.thread (running r.tie h.pc h.regs) R0 at_end.stands)
       made_so (λ p ps found wrong traps. errs_followed branch_at (subst StopsIn (sym none) tt) (errs p ps found wrong traps))

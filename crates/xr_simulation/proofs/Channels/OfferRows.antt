@@ -2,6 +2,7 @@
 use Rattle.std.proofs.Common.{◌≡◌, ℕ, ◌+◌, ◌≤◌, List, [], ◌∷◌, Some, None, refl, arith}
 use Rattle.std.specs.Prelude.{false}
 use Rattle.xs_instr.specs.declared.state.ChanEnd.{ChanEnd}
+use Rattle.xs_instr.specs.declared.state.Sent.{Sent}
 use Rattle.xs_instr.specs.Ends.{word_tokens}
 use Rattle.xc_kernel.specs.Plain as kernel
 use Rattle.xc_meaning.specs.States.Branches.{runs, side_of}
@@ -13,7 +14,7 @@ use Rattle.xr_simulation.specs.MatchStates.{ProgressWith, none_rests}
 use Rattle.xr_simulation.specs.Transfers.{Transfer, in_phase}
 use Rattle.xr_simulation.specs.NextStep.{Communicates, InTransfer, IsBehind, cost, puts_out}
 use Rattle.xr_simulation.proofs.Channels.Worlds.{offered, offers_word}
-use Rattle.xr_simulation.proofs.Channels.EndRows.{AtEnd, Goal, acts_row, boxes_put, near_end, put_there, sends_row, stays_in}
+use Rattle.xr_simulation.proofs.Channels.EndRows.{AtEnd, Goal, acts_row, boxes_put, put_there, sends_row, side_end, stays_in}
 use Rattle.xr_simulation.proofs.Channels.EndSteps.{gone_on}
 use Rattle.xr_simulation.proofs.Relation.Moments.{BranchAt, Moment, ThreadAt}
 use Rattle.xr_simulation.proofs.Channels.OwnTransfers as own
@@ -22,9 +23,10 @@ use Rattle.xr_simulation.proofs.Channels.PieceStarts as start
 use Rattle.xr_simulation.proofs.Channels.Protocols.{offer_sent}
 use Rattle.xr_simulation.proofs.RelyGuarantee.Footprints.{transfer_shrinks}
 use Rattle.xr_simulation.proofs.RelyGuarantee.Phases.{inside_as}
-use Rattle.xr_channels.specs.Phases.{between, sends_end}
+use Rattle.xr_channels.specs.Phases.{between, sends_end, side_state}
+use Rattle.xr_channels.specs.SideRows.{Begins, Next, SendRow, SentNext, is_late, is_put, sends_makes, sends_pauses}
 use Rattle.xr_channels.proofs.All.Frames.{length_box}
-use Rattle.xr_channels.proofs.All.Near as near
+use Rattle.xr_channels.proofs.All.SideEnds as rows
 
 module _ {moment : Moment none_rests} {thread_at : ThreadAt moment None} (branch_at : BranchAt thread_at)
     (on : branch_at.branch.mode ≡ runs) (none : thread_at.runner.transfer ≡ None) (j : ℕ) (few : j ≤ branch_at.stand.left)
@@ -35,7 +37,7 @@ module _ {moment : Moment none_rests} {thread_at : ThreadAt moment None} (branch
   open thread_at use {core as c, thread as t, state as a, at_core as at_c, runner as r, runs as runs_r}
   open branch_at use {branch, known, stand}
 
-  abbrev at_end : AtEnd thread_at h.on.channel h.on.side between
+  abbrev at_end : AtEnd thread_at h.on.channel h.on.side between []
   at_end = start.at_end branch_at on none (puts_out o v) j h
 
   stands : side_of branch h.on.channel ≡ Some h.on.side
@@ -95,10 +97,28 @@ module _ {moment : Moment none_rests} {thread_at : ThreadAt moment None} (branch
           (transfer_shrinks g r items (less does_offer es) transfer j (behind does_offer es) inside),
     )
 
+  -- within a core the offer is put at once
+  abbrev Row : Type 0 → Type 0
+  Row = SendRow (side_end branch_at at_end) r.thread (running r.tie h.pc h.regs) (word_tokens v)
+
+  abbrev PutNow : Type 0
+  PutNow = SentNext (side_end branch_at at_end) r.thread (running r.tie h.pc h.regs) (word_tokens v) (put_there branch_at at_end (offer v))
+      (side_state (sends_end v) false) []
+
+  put_now : Row (Begins (side_end branch_at at_end) r.thread (running r.tie h.pc h.regs) (word_tokens v) (offer v)
+      (side_state (sends_end v) false) (side_state (sends_end v) false) (offer v ∷ [])) → Row PutNow
+  put_now (sends_pauses did few) = sends_pauses did few
+  put_now (sends_makes did (is_put near next)) = sends_makes did next
+  put_now (sends_makes did (is_late far next)) = absurd (far (start.sides_within branch_at on none (puts_out o v) j h))
+
+  abbrev Then : List ChanEnd → List Sent → Type 0
+  Then es sent = Next (side_end branch_at at_end) (own.left does_offer es) sent (put_there branch_at at_end (offer v))
+      (side_state (sends_end v) false) []
+
   pub offer_followed : Goal branch_at at_end
   offer_followed =
-      sends_row branch_at at_end h.pc h.regs h.here o.pos (word_tokens v) (put_there branch_at at_end (offer v)) (sends_end v) h.steps.0
-      (near.out_plain (near_end branch_at at_end) r.thread (running r.tie h.pc h.regs) v at_end.stands)
-      (acts_row branch_at at_end does_offer (sends_end v) (stays_in refl) none_rests (λ d u ne. refl) j (2 + j + cost g r) few (omega arith)
+      sends_row branch_at at_end h.pc h.regs h.here o.pos (word_tokens v) Then h.steps.0
+      (put_now (rows.out_plain (side_end branch_at at_end) r.thread (running r.tie h.pc h.regs) v at_end.stands))
+      (acts_row branch_at at_end does_offer (sends_end v) [] (stays_in refl) none_rests (λ d u ne. refl) j (2 + j + cost g r) few (omega arith)
       (put_there branch_at at_end (offer v)) (boxes_put branch_at at_end (offer v)) (length_box x.state.inboxes h.on.channel _)
       stands_inside)

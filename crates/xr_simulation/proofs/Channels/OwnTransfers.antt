@@ -6,6 +6,7 @@ use Rattle.xs_instr.specs.declared.state.ChanEnd.{ChanEnd}
 use Rattle.xs_instr.specs.declared.state.CoreState.{CoreState}
 use Rattle.xs_instr.specs.declared.state.Mode.TheVariants.{Running}
 use Rattle.xs_instr.specs.declared.state.Regs.{Regs}
+use Rattle.xs_instr.specs.declared.state.Sent.{Sent}
 use Rattle.xs_instr.specs.declared.trace.Record.{Record}
 use Rattle.xc_meaning.specs.Counts.Families.{steps_of}
 use Rattle.xc_meaning.specs.Counts.KernelCounts.{greatest_count, kernel_bound}
@@ -31,7 +32,7 @@ use Rattle.xr_simulation.proofs.Channels.EndSteps.{gone_on, tied_still, touches}
 use Rattle.xr_simulation.proofs.RelyGuarantee.Less.{uses_less}
 use Rattle.xr_simulation.proofs.Lives.OwnLife.{own_life}
 use Rattle.xr_simulation.proofs.Relation.Moments.{BranchAt, Moment, ThreadAt}
-use Rattle.xr_simulation.proofs.OwnSteps.Events.{OwnStep, goes_on_answered, watched_on}
+use Rattle.xr_simulation.proofs.OwnSteps.Events.{OwnStep, event_follows, is_step, watched_behind}
 use Rattle.xr_simulation.proofs.Relation.Seats.{with_role}
 use Rattle.xr_simulation.proofs.RelyGuarantee.Footprints.{IsWithin, within_of_uses}
 use Rattle.xr_simulation.proofs.Relation.Lasting.{Follows, told_by}
@@ -116,8 +117,8 @@ module _ {moment : Moment none_rests} {thread_at : ThreadAt moment None} {branch
       runs_ended : runs ≡ ended → ⊥
       runs_ended f = cc
 
-  -- The ends are as many as before.
-  module _ (size : length ends ≡ length a.ends) where
+  -- The ends are as many as before, and this is sent over links.
+  module _ (size : length ends ≡ length a.ends) (sent : List Sent) where
     abbrev pub own_step : OwnStep g r c a x.state
     own_step = record {
       left = left;
@@ -143,7 +144,7 @@ module _ {moment : Moment none_rests} {thread_at : ThreadAt moment None} {branch
     }
 
     abbrev pub watched : Watched
-    watched = watched_on thread_at own_step none_rests
+    watched = watched_behind thread_at own_step none_rests sent
 
     -- its life is one step longer
     bound_behind : (j further : ℕ) → j ≤ stand.left → further ≤ j + 2 + cost g r → (watched.lives c t).steps + further ≤ kernel_bound g.program * (more r.family + 1)
@@ -192,4 +193,5 @@ module _ {moment : Moment none_rests} {thread_at : ThreadAt moment None} {branch
         AreWired g (with_role who c t (used_by (s does) None)) watched.machine world →
         ((which : Transfer) → transfer ≡ Some which → HasAlone world.branches which.channel which.side r.branch) → Follows g rests who w x watched
     does_so rests j further few enough by wired alone =
-        goes_on_answered thread_at own_step rests wired alone (own_stand (rests c t) j further few enough by)
+        event_follows thread_at own_step rests watched (is_step thread_at own_step rests sent) wired alone
+        (own_stand (rests c t) j further few enough by)

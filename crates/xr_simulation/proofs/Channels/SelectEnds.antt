@@ -4,7 +4,6 @@ use Rattle.std.proofs.Common.{◌≡◌, ℕ, zero, suc, IsTrue, List, [], ◌�
 use Rattle.std.specs.Prelude.{slice_get, slice_index_or}
 use Rattle.std.proofs.lemmas.Option.{same_Some}
 use Rattle.xs_instr.specs.Events.{end_ready}
-use Rattle.xs_instr.specs.Machine.{no_links}
 use Rattle.xc_kernel.specs.declared.statement.KRes.TheVariants.{Chan}
 use Rattle.xc_kernel.specs.Things.{by_input, by_resource, channel}
 use Rattle.xc_invariants.proofs.Choices.{choice_each}
@@ -25,8 +24,9 @@ use Rattle.xr_simulation.specs.MatchStates.{none_rests}
 use Rattle.xr_simulation.specs.NextStep.{ChoicesOnSides, IsOnSide, Selects, end_on}
 use Rattle.xr_simulation.specs.Runners.{IsChannel, Setting, Runner}
 use Rattle.xr_simulation.specs.ThreadViews.{ThreadView}
-use Rattle.xr_simulation.specs.Wired.{AreSidesOn, IsLine, boxes_in}
-use Rattle.xr_simulation.proofs.Channels.Ends.{is_near, place_end}
+use Rattle.xl_plan.specs.Layout.{core_of}
+use Rattle.xr_simulation.specs.Wired.{IsLine, boxes_in}
+use Rattle.xr_simulation.proofs.Channels.Ends.{is_end, place_end}
 use Rattle.xr_simulation.proofs.Channels.Inboxes.{line_box}
 use Rattle.xr_simulation.proofs.Channels.TransferBegins as begins
 use Rattle.xr_simulation.proofs.Channels.TransferBegins.{core_there, line_there, spot_there}
@@ -107,22 +107,22 @@ module _ {moment : Moment none_rests} {hand : Option Acquired} (thread_at : Thre
     is_line : IsLine g.program line d
     is_line = line_there thread_at outside branch h.has.runs.known h.has.runs.running d side is_channel uses stands
 
-    on_core : AreSidesOn g.program d c
+    on_core : core_of g.program d side ≡ c
     on_core = core_there thread_at outside branch h.has.runs.known h.has.runs.running d side is_channel uses stands
 
     ready_is : end_ready a (end_of_side (pair_of g.program d) side).end
         ≡ has_arrived s d (side_of branch d)
     ready_is =
-        case_agrees g.image.chans is.lines.wired w.machine.cores no_links (boxes_in g.program x.state.inboxes) st.wired.ghosts
-        st.wired.local.wires line (pair_of g.program d) side (is_near thread_at d side line is_line on_core).channel a
-        (is_near thread_at d side line is_line on_core).at_core
+        case_agrees g.image.chans is.lines.wired w.machine.cores w.machine.links (boxes_in g.program x.state.inboxes) st.wired.ghosts
+        st.wired.over.wires line (pair_of g.program d) side (is_end thread_at d side line is_line on_core).channel a
+        (is_end thread_at d side line is_line on_core).at_core
         (spot_there thread_at outside branch h.has.runs.known h.has.runs.running d side is_channel uses stands) s d stands
         (line_box g.program line d is_line x.state.inboxes)
 
     end_agrees : end_ready a (end_on g r (slice_index_or r.sides d None) d) ≡ has_arrived s d (side_of branch d)
     end_agrees =
         ap (λ o. end_ready a (end_on g r o d)) its_side.1
-        ∙ ap (end_ready a) (sym (place_end thread_at d side line is_line on_core side)) ∙ ready_is
+        ∙ ap (end_ready a) (sym (place_end thread_at d side line is_line on_core)) ∙ ready_is
 
   abbrev clock : slice_get x.state.clocks r.core ≡ Some a.clock
   clock = (kept_now moment c t a r hand at_c runs_r).clock

@@ -1,22 +1,23 @@
 -- A branch begins a transfer on the side of a channel in which it stands: nobody else is inside one there.
-use Rattle.std.proofs.Common.{◌≡◌, ◌≢◌, inl, ℕ, IsTrue, Option, Some, None, refl, sym, ap, ◌∙◌, subst, ⊎_elim}
+use Rattle.std.proofs.Common.{◌≡◌, ◌≢◌, inl, ℕ, IsTrue, List, [], Option, Some, None, refl, sym, ap, ◌∙◌, subst, ⊎_elim}
 use Rattle.std.specs.Prelude.{Bool, false, slice_get}
 use Rattle.std.proofs.lemmas.Bool.{cases_eq}
 use Rattle.std.proofs.lemmas.Option.{none-some, same_Some}
 use Rattle.xc_kernel.specs.Things.{channel}
 use Rattle.xc_invariants.specs.Tree.{IsWaiting}
 use Rattle.xc_meaning.specs.States.Branches.{Branch, runs, side_of}
-use Rattle.xc_meaning.specs.States.Channels.{Side, first, second, other_side}
+use Rattle.xc_meaning.specs.States.Channels.{Parcel, Side, first, second, other_side}
 use Rattle.xc_meaning.specs.Uses.{by_items}
 use Rattle.xl_par.specs.Acquired.{Acquired}
+use Rattle.xl_plan.specs.Layout.{core_of}
 use Rattle.xr_simulation.specs.Runners.{IsChannel, Runner}
-use Rattle.xr_simulation.specs.Transfers.{in_phase}
+use Rattle.xr_simulation.specs.Transfers.{owing}
 use Rattle.xr_simulation.specs.Wired.{AreSidesOn, HasAlone, IsLine, IsTransferring}
 use Rattle.xr_simulation.proofs.Channels.OwnSide.{alone_begins, alone_excludes}
 use Rattle.xr_simulation.proofs.Relation.Moments.{Moment, ThreadAt}
 use Rattle.xr_simulation.proofs.Relation.CoreSteps.{same_runner, works_at}
 use Rattle.xr_simulation.proofs.Channels.WiredMoves.{Moves}
-use Rattle.xr_simulation.proofs.Channels.Wiring.{wired_between}
+use Rattle.xr_simulation.proofs.Channels.Wiring.{late_between, wired_between}
 use Rattle.xr_channels.specs.Phases.{Phase, between, side_state}
 
 -- no side is the other one
@@ -45,8 +46,12 @@ module _ {may_rest : (core thread : ℕ) → Bool} {moment : Moment may_rest} {h
   pub line_there : IsLine g.program line d
   line_there = lines_there.1.1
 
-  pub core_there : AreSidesOn g.program d c
-  core_there s = lines_there.0 s ∙ st.roles.core c t r hand runs_r
+  pub core_there : core_of g.program d side ≡ c
+  core_there = lines_there.0 side ∙ st.roles.core c t r hand runs_r
+
+  -- both its sides are on the core
+  pub sides_there : AreSidesOn g.program d c
+  sides_there s = lines_there.0 s ∙ st.roles.core c t r hand runs_r
 
   -- a thread that is inside a transfer there would run this very branch
   pub nobody : (e u : ℕ) → IsTransferring who e u d side → ⊥
@@ -66,15 +71,20 @@ module _ {may_rest : (core thread : ℕ) → Bool} {moment : Moment may_rest} {h
   pub spot_there : st.wired.ghosts.side_states line side ≡ side_state between false
   spot_there = wired_between g who w.machine x.state st.wired line d side line_there nobody
 
+  -- and nothing is late behind it
+  pub late_there : st.wired.ghosts.late line (other_side side) ≡ []
+  late_there = late_between g who w.machine x.state st.wired line d side line_there nobody
+
   -- the branch has it for itself
   pub alone_there : HasAlone x.state.branches d side r.branch
   alone_there = alone_begins d side g.program x.state st.lawful is_channel.known r.branch branch known uses stands
 
   -- its thread goes inside a transfer
-  pub begins : (s : Runner) (phase : Phase) → s.transfer ≡ Some (in_phase d side phase) → Moves g who c t r s d side phase
-  begins s phase its = record {
+  pub begins : (s : Runner) (phase : Phase) (late : List Parcel) → s.transfer ≡ Some (owing d side phase late) →
+      Moves g who c t r s d side phase late
+  begins s phase late its = record {
     old = λ transfer was. absurd (none-some transfer (sym outside ∙ was));
-    new = λ transfer now. same_Some transfer (in_phase d side phase) (sym now ∙ its);
-    over = λ none. absurd (none-some (in_phase d side phase) (sym none ∙ its));
+    new = λ transfer now. same_Some transfer (owing d side phase late) (sym now ∙ its);
+    over = λ none. absurd (none-some (owing d side phase late) (sym none ∙ its));
     mine = λ e u other. absurd (nobody e u other);
   }

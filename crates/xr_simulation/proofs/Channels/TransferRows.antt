@@ -4,6 +4,7 @@ use Rattle.std.specs.Prelude.{Bool, false, ◌&&◌, nat_eq, slice_get}
 use Rattle.std.proofs.lemmas.Bool.{ne_eqb}
 use Rattle.xs_instr.specs.declared.state.ChanEnd.{ChanEnd}
 use Rattle.xs_instr.specs.declared.state.Regs.{Regs}
+use Rattle.xs_instr.specs.declared.state.Sent.{Sent}
 use Rattle.xs_instr.specs.Ends.{control_token}
 use Rattle.xc_meaning.specs.States.Branches.{runs}
 use Rattle.xc_meaning.specs.States.Channels.{Side}
@@ -13,7 +14,7 @@ use Rattle.xr_simulation.specs.MatchStates.{IfTrue, IsAtRest, ProgressWith, none
 use Rattle.xr_simulation.specs.Transfers.{GoesWith, acts_left, all_but_first, items_behind, steps_left, in_phase}
 use Rattle.xr_simulation.specs.NextStep.{Has, InTransfer, IsBehind, TakesSteps, cost}
 use Rattle.xr_simulation.proofs.OwnSteps.Answers as answers
-use Rattle.xr_simulation.proofs.Channels.EndRows.{AtEnd, Goal, boxes, ends_row, goes_out, goes_row, inside_there, near_end, sends_row, stays_in}
+use Rattle.xr_simulation.proofs.Channels.EndRows.{AtEnd, Goal, boxes, ends_row, goes_out, goes_row, inside_there, sends_row, side_end, stays_in}
 use Rattle.xr_simulation.proofs.Channels.EndSteps as step
 use Rattle.xr_simulation.proofs.Channels.EndSteps.{gone_on}
 use Rattle.xr_simulation.proofs.Relation.Moments.{BranchAt, Moment, ThreadAt}
@@ -21,8 +22,9 @@ use Rattle.xr_simulation.proofs.OwnSteps.Events.{rests_alone, rests_there}
 use Rattle.xr_simulation.proofs.Channels.Protocols.{ack_sent, end_sent, end_taken}
 use Rattle.xr_simulation.proofs.RelyGuarantee.Phases.{fits_as, has_as, rest_as, steps_as}
 use Rattle.xr_simulation.proofs.RelyGuarantee.Events.{here_at}
-use Rattle.xr_channels.specs.Phases.{Phase, awaits_ack, between, checks_end, offers, sends_ack, sends_end}
-use Rattle.xr_channels.proofs.All.Near as near
+use Rattle.xr_channels.specs.Phases.{Phase, awaits_ack, between, checks_end, offers, sends_ack, sends_end, side_state}
+use Rattle.xr_channels.specs.SideRows.{Next, SendRow, SentNext}
+use Rattle.xr_channels.proofs.All.SideEnds as rows
 
 -- nobody is at rest on another core
 pub alone_elsewhere : (c : ℕ) (b : Bool) (d : ℕ) → d ≢ c → (nat_eq d c && b) ≡ false
@@ -73,8 +75,8 @@ module _ {moment : Moment none_rests} {thread_at : ThreadAt moment None} (branch
         },
       )
 
-  abbrev at_end : (phase : Phase) → r.transfer ≡ Some (in_phase channel side phase) → AtEnd thread_at channel side phase
-  at_end phase its = inside_there thread_at channel side phase its
+  abbrev at_end : (phase : Phase) → r.transfer ≡ Some (in_phase channel side phase) → AtEnd thread_at channel side phase []
+  at_end phase its = inside_there thread_at channel side phase [] its
 
   -- END of an output
   pub sends_end_followed : (v : ℕ) (its : r.transfer ≡ Some (in_phase channel side (sends_end v))) (j : ℕ) → 2 + j + cost g r ≤ stand.left →
@@ -82,9 +84,14 @@ module _ {moment : Moment none_rests} {thread_at : ThreadAt moment None} (branch
   sends_end_followed v its j few h =
       let here = at_end (sends_end v) its in
       let later = awaits_ack (offers v) in
-      sends_row branch_at here h.pc h.regs h.here h.pos (control_token 1 ∷ []) (boxes branch_at here) later h.steps.0
-      (near.outct_end (near_end branch_at here) r.thread (running r.tie h.pc h.regs) v false here.stands)
-      (goes_row branch_at here h.pc h.regs h.here on (Some (in_phase channel side later)) later (stays_in refl) none_rests
+      let at = side_end branch_at here in
+      let Then : List ChanEnd → List Sent → Type 0 = λ es sent. Next at (step.left g r a h.pc h.regs h.regs h.here es) sent
+      (boxes branch_at here) (side_state later false) [] in
+      sends_row branch_at here h.pc h.regs h.here h.pos (control_token 1 ∷ []) Then h.steps.0
+      (subst (λ l. SendRow at r.thread (running r.tie h.pc h.regs) (control_token 1 ∷ [])
+      (SentNext at r.thread (running r.tie h.pc h.regs) (control_token 1 ∷ []) (boxes branch_at here) (side_state later false) l)) here.late_is
+      (rows.outct_end at r.thread (running r.tie h.pc h.regs) v false here.stands))
+      (goes_row branch_at here h.pc h.regs h.here on (Some (in_phase channel side later)) later [] (stays_in refl) none_rests
       (λ d u ne. refl) (1 + j + cost g r) (omega (arith, few))
       (later_steps (sends_end v) later j (1 + j + cost g r) (omega arith) h h.goes_with
       (end_sent g r channel side h.pos (IsBehind g r (all_but_first branch.items) j) h.pc h.regs v h.steps)))
@@ -95,8 +102,8 @@ module _ {moment : Moment none_rests} {thread_at : ThreadAt moment None} (branch
   checks_end_followed its j few h =
       let here = at_end checks_end its in
       ends_row branch_at here h.pc h.regs h.here h.pos sends_ack h.steps.0
-      (near.chkct_end (near_end branch_at here) r.thread (running r.tie h.pc h.regs) false here.stands)
-      (goes_row branch_at here h.pc h.regs h.here on (Some (in_phase channel side sends_ack)) sends_ack (stays_in refl) none_rests
+      (rows.chkct_end (side_end branch_at here) r.thread (running r.tie h.pc h.regs) false here.stands)
+      (goes_row branch_at here h.pc h.regs h.here on (Some (in_phase channel side sends_ack)) sends_ack [] (stays_in refl) none_rests
       (λ d u ne. refl) (1 + j + cost g r) (omega (arith, few))
       (later_steps checks_end sends_ack j (1 + j + cost g r) (omega arith) h h.goes_with
       (end_taken g r channel side h.pos (IsBehind g r branch.items j) h.pc h.regs h.steps)))
@@ -137,8 +144,10 @@ module _ {moment : Moment none_rests} {thread_at : ThreadAt moment None} (branch
       InTransfer g r (in_phase channel side sends_ack) branch.items j now → Goal branch_at (at_end sends_ack its)
   sends_ack_followed its j few h =
       let here = at_end sends_ack its in
-      sends_row branch_at here h.pc h.regs h.here h.pos (control_token 3 ∷ []) (boxes branch_at here) between h.steps.0
-      (near.outct_ack (near_end branch_at here) r.thread (running r.tie h.pc h.regs) false here.stands)
-      (goes_row branch_at here h.pc h.regs h.here on None between (goes_out refl refl) (rests_alone c t)
+      let Then : List ChanEnd → List Sent → Type 0 = λ es sent. Next (side_end branch_at here)
+      (step.left g r a h.pc h.regs h.regs h.here es) sent (boxes branch_at here) (side_state between false) [] in
+      sends_row branch_at here h.pc h.regs h.here h.pos (control_token 3 ∷ []) Then h.steps.0
+      (rows.outct_ack (side_end branch_at here) r.thread (running r.tie h.pc h.regs) false here.stands)
+      (goes_row branch_at here h.pc h.regs h.here on None between [] (goes_out refl refl refl) (rests_alone c t)
       (λ d u ne. alone_elsewhere c (nat_eq u t) d ne)
       (j + cost g r) (omega (arith, few)) (left_it j h))

@@ -1,19 +1,17 @@
 -- The channels are wired as before where ends and inboxes stay, and the threads are in the transfers in which they were.
-use Rattle.std.proofs.Common.{◌≡◌, ◌≢◌, ℕ, List, false, length, Option, Some, refl, slice_set, sym, ap, ◌∙◌, subst, ⊎_elim, arith}
+use Rattle.std.proofs.Common.{◌≡◌, ◌≢◌, ℕ, List, [], false, length, Option, Some, refl, slice_set, sym, ap, ◌∙◌, subst, ⊎_elim}
 use Rattle.std.specs.Prelude.{slice_get}
 use Rattle.std.proofs.lemmas.Bool.{cases_eq}
 use Rattle.std.proofs.lemmas.Option.{same_Some}
-use Rattle.xs_instr.specs.declared.image.Pair.{Pair}
 use Rattle.xs_instr.specs.declared.state.CoreState.{CoreState}
-use Rattle.xs_instr.specs.Ends.{Peer}
-use Rattle.xs_instr.specs.Machine.{Machine, no_links, parts_in}
-use Rattle.xc_meaning.specs.States.Channels.{Inboxes, Parcel, Side, first, second, other_side}
+use Rattle.xs_instr.specs.Machine.{Machine, parts_in}
+use Rattle.xc_meaning.specs.States.Channels.{Parcel, Side, other_side}
 use Rattle.xc_meaning.specs.States.Worlds.{World}
 use Rattle.xl_par.specs.Acquired.{Acquired}
-use Rattle.xr_channels.specs.Balance.{Balanced, IsEight, Local, credits_in}
-use Rattle.xr_channels.specs.ChannelRel.{ChannelRel}
 use Rattle.xr_channels.specs.Phases.{SideState, between, side_state}
-use Rattle.xr_channels.specs.Channels.{Ghosts, ChannelRelAt, Channels, ends_in, direction_to, end_of_side, tokens_at, tokens_in}
+use Rattle.xr_channels.specs.Channels.{ends_in}
+use Rattle.xr_channels.specs.ChannelsOverLinks.{ChannelsOverLinks}
+use Rattle.xr_channels.proofs.All.OverLinks.{over_same}
 use Rattle.xr_simulation.specs.Roles.{Roles, used_by}
 use Rattle.xr_simulation.specs.Runners.{Setting, Runner}
 use Rattle.xr_simulation.specs.Transfers.{Transfer}
@@ -28,41 +26,6 @@ pub record TransfersAsBefore (who who' : Roles) : Type 0 where
       (j : Runner) × (old : Option Acquired) × (who d u ≡ used_by j old) × (j.transfer ≡ Some transfer)
   pub still : (d u : ℕ) (j : Runner) (old : Option Acquired) (transfer : Transfer) → who d u ≡ used_by j old → j.transfer ≡ Some transfer →
       (i : Runner) × (other : Option Acquired) × (who' d u ≡ used_by i other) × (i.transfer ≡ Some transfer)
-
--- Each core has the ends that it had.
-module _ (cores cores' : List CoreState) (ends_same : (x : ℕ) → ends_in (slice_get cores' x) ≡ ends_in (slice_get cores x)) where
-  tokens_same : (x e : ℕ) → tokens_at cores' x e ≡ tokens_at cores x e
-  tokens_same x e = ap (λ l. tokens_in (slice_get l e)) (ends_same x)
-
-  talks_still : (boxes : List Inboxes) (g : Ghosts) (p : Pair) (k : ℕ) → ChannelRelAt cores no_links boxes g p k first → ChannelRelAt cores' no_links boxes g p k first
-  talks_still boxes g p k h =
-      let from : (side : Side) → direction_to cores no_links boxes g p k side ≡ direction_to cores' no_links boxes g p k side =
-      λ side. ap (λ ks. record (direction_to cores no_links boxes g p k side) { buffer = ks }) (sym (tokens_same (end_of_side p side).core (end_of_side p side).end)) in
-      subst (λ l. ChannelRel (g.side_states k first) (g.side_states k second) (direction_to cores' no_links boxes g p k second) l) (from first)
-      (subst (λ l. ChannelRel (g.side_states k first) (g.side_states k second) l (direction_to cores no_links boxes g p k first)) (from second) h)
-
-  wires_still : (pairs : List Pair) (boxes : List Inboxes) (g : Ghosts) → Channels pairs cores no_links boxes g → Channels pairs cores' no_links boxes g
-  wires_still pairs boxes g h = record {
-    talks = λ k p at. talks_still boxes g p k (h.talks k p at);
-    boxes = h.boxes;
-    prompt = h.prompt;
-    selves = h.selves;
-  }
-
-  eight_still : (here there : Peer) → IsEight cores here there → IsEight cores' here there
-  eight_still here there old =
-      let credits = ap (λ l. credits_in (slice_get l here.end)) (ends_same here.core) in
-      let tokens = ap length (tokens_same there.core there.end) in
-      omega (arith, old, credits, tokens)
-
-  balanced_still : (pairs : List Pair) → Balanced pairs cores → Balanced pairs cores'
-  balanced_still pairs h = record {
-    ends = λ k p side at. let old = h.ends k p side at in let size = ap length (ends_same (end_of_side p side).core) in omega (arith, old, size);
-    eight = λ k p side at. eight_still (end_of_side p side) (end_of_side p (other_side side)) (h.eight k p side at);
-  }
-
-  pub local_still : (pairs : List Pair) (boxes : List Inboxes) (g : Ghosts) → Local pairs cores boxes g → Local pairs cores' boxes g
-  local_still pairs boxes g h = record { wires = wires_still pairs boxes g h.wires; balanced = balanced_still pairs h.balanced }
 
 -- Each thread is in the transfer in which it was.
 module _ (g : Setting) (who who' : Roles) (as_before : TransfersAsBefore who who') where
@@ -84,7 +47,7 @@ module _ (g : Setting) (who who' : Roles) (as_before : TransfersAsBefore who who
   pub wired_as : (m : Machine) (x y : World) → y.inboxes ≡ x.inboxes → AreWired g who m x → AreWired g who' m y
   wired_as m x y same h = record {
     ghosts = h.ghosts;
-    local = subst (λ boxes. Local g.image.chans m.cores (boxes_in g.program boxes) h.ghosts) (sym same) h.local;
+    over = subst (λ boxes. ChannelsOverLinks g.image.chans m.cores m.links (boxes_in g.program boxes) h.ghosts) (sym same) h.over;
     long = ap length same ∙ h.long;
     ends = h.ends;
     listed = λ d u c side is. h.listed d u c side (was_in d u c side is);
@@ -92,14 +55,15 @@ module _ (g : Setting) (who who' : Roles) (as_before : TransfersAsBefore who who
     one = λ d u d' u' c side is also. h.one d u d' u' c side (was_in d u c side is) (was_in d' u' c side also);
   }
 
--- a core steps, and leaves its ends
+-- a core steps, leaves its ends, and sends nothing over links
 pub wired_still : (g : Setting) (who who' : Roles) (m m' : Machine) (c : ℕ) (a b : CoreState) (x y : World) → TransfersAsBefore who who' →
-    slice_get m.cores c ≡ Some a → m'.cores ≡ slice_set m.cores c b → b.ends ≡ a.ends → y.inboxes ≡ x.inboxes → AreWired g who m x →
-    AreWired g who' m' y
-wired_still g who who' m m' c a b x y as_before was step left same h =
+    slice_get m.cores c ≡ Some a → m'.cores ≡ slice_set m.cores c b → m'.links ≡ m.links → b.ends ≡ a.ends → y.inboxes ≡ x.inboxes →
+    AreWired g who m x → AreWired g who' m' y
+wired_still g who who' m m' c a b x y as_before was step links_same left same h =
     wired_as g who who' as_before m' x y same (record {
       ghosts = h.ghosts;
-      local = local_still m.cores m'.cores ends_same g.image.chans _ h.ghosts h.local;
+      over = subst (λ l. ChannelsOverLinks g.image.chans m'.cores l (boxes_in g.program x.inboxes) h.ghosts) (sym links_same)
+          (over_same g.image.chans m.cores m.links (boxes_in g.program x.inboxes) h.ghosts h.over m'.cores ends_same);
       long = h.long;
       ends = λ d e at.
           ⊎_elim
@@ -121,30 +85,48 @@ wired_still g who who' m m' c a b x y as_before was step left same h =
         (λ (ne : k ≢ c). ap ends_in (get_set_other m.cores c k b ne))
         (cases_eq k c)
 
--- A side's spot, where a thread is inside a transfer there, and where none is.
+-- Where a side stands and what is late behind it, where a thread is inside a transfer there, and where none is.
 module _ (g : Setting) (who : Roles) (m : Machine) (x : World) (h : AreWired g who m x) where
-  pub wired_inside : (core thread at : ℕ) (r : Runner) (hand : Option Acquired) (transfer : Transfer) → who core thread ≡ used_by r hand →
-      r.transfer ≡ Some transfer → IsLine g.program at transfer.channel →
-      h.ghosts.side_states at transfer.side ≡ side_state transfer.phase false
-  wired_inside core thread at r hand transfer runs is on = by (h.stances at transfer.channel transfer.side on)
-    where
-      its : IsTransferring who core thread transfer.channel transfer.side
-      its = record { runner = r; hand = hand; runs = runs; transfer = transfer; is = is; channel_is = refl; side_is = refl }
+  module _ (core thread at : ℕ) (r : Runner) (hand : Option Acquired) (transfer : Transfer) (runs : who core thread ≡ used_by r hand)
+      (is : r.transfer ≡ Some transfer) (on : IsLine g.program at transfer.channel) where
+    abbrev Stood : Type 0
+    Stood = (h.ghosts.side_states at transfer.side ≡ side_state transfer.phase false)
+        × (h.ghosts.late at (other_side transfer.side) ≡ transfer.late)
 
-      by : SideIs g who transfer.channel transfer.side (h.ghosts.side_states at transfer.side) (h.ghosts.late at (other_side transfer.side)) →
-          h.ghosts.side_states at transfer.side ≡ side_state transfer.phase false
-      by (in_transfer d u i on_core e late) =
-          let one = h.one core thread d u transfer.channel transfer.side its i in
-          let runner : r ≡ i.runner = same_runner r i.runner hand i.hand
-          (sym runs ∙ sym (ap (λ k. who k u) one.0 ∙ ap (who core) one.1) ∙ i.runs) in
-          let same : transfer ≡ i.transfer = same_Some transfer i.transfer (sym is ∙ ap (λ (k : Runner). k.transfer) runner ∙ i.is) in
-          e ∙ ap (λ (k : Transfer). side_state k.phase false) (sym same)
-      by (idle nobody e late) = absurd (nobody core thread its)
+    stood : Stood
+    stood = by (h.stances at transfer.channel transfer.side on)
+      where
+        its : IsTransferring who core thread transfer.channel transfer.side
+        its = record { runner = r; hand = hand; runs = runs; transfer = transfer; is = is; channel_is = refl; side_is = refl }
 
-  pub wired_between : (at c : ℕ) (side : Side) → IsLine g.program at c → ((core thread : ℕ) → IsTransferring who core thread c side → ⊥) →
-      h.ghosts.side_states at side ≡ side_state between false
-  wired_between at c side on nobody = by (h.stances at c side on)
-    where
-      by : SideIs g who c side (h.ghosts.side_states at side) (h.ghosts.late at (other_side side)) → h.ghosts.side_states at side ≡ side_state between false
-      by (in_transfer d u i on_core e late) = absurd (nobody d u i)
-      by (idle none e late) = e
+        by : SideIs g who transfer.channel transfer.side (h.ghosts.side_states at transfer.side) (h.ghosts.late at (other_side transfer.side)) → Stood
+        by (in_transfer d u i on_core e late) =
+            let one = h.one core thread d u transfer.channel transfer.side its i in
+            let runner : r ≡ i.runner = same_runner r i.runner hand i.hand
+            (sym runs ∙ sym (ap (λ k. who k u) one.0 ∙ ap (who core) one.1) ∙ i.runs) in
+            let same : transfer ≡ i.transfer = same_Some transfer i.transfer (sym is ∙ ap (λ (k : Runner). k.transfer) runner ∙ i.is) in
+            (e ∙ ap (λ (k : Transfer). side_state k.phase false) (sym same), late ∙ ap (λ (k : Transfer). k.late) (sym same))
+        by (idle nobody e late) = absurd (nobody core thread its)
+
+    pub wired_inside : h.ghosts.side_states at transfer.side ≡ side_state transfer.phase false
+    wired_inside = stood.0
+
+    pub late_inside : h.ghosts.late at (other_side transfer.side) ≡ transfer.late
+    late_inside = stood.1
+
+  module _ (at c : ℕ) (side : Side) (on : IsLine g.program at c) (nobody : (core thread : ℕ) → IsTransferring who core thread c side → ⊥) where
+    abbrev Idles : Type 0
+    Idles = (h.ghosts.side_states at side ≡ side_state between false) × (h.ghosts.late at (other_side side) ≡ [])
+
+    idles : Idles
+    idles = by (h.stances at c side on)
+      where
+        by : SideIs g who c side (h.ghosts.side_states at side) (h.ghosts.late at (other_side side)) → Idles
+        by (in_transfer d u i on_core e late) = absurd (nobody d u i)
+        by (idle none e late) = (e, late)
+
+    pub wired_between : h.ghosts.side_states at side ≡ side_state between false
+    wired_between = idles.0
+
+    pub late_between : h.ghosts.late at (other_side side) ≡ []
+    late_between = idles.1

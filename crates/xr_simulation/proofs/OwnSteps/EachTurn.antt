@@ -6,11 +6,12 @@ use Rattle.xs_instr.specs.declared.image.Home.{Home}
 use Rattle.xs_instr.specs.declared.state.CoreState.{CoreState}
 use Rattle.xs_instr.specs.declared.state.Mode.{Mode as ThreadMode}
 use Rattle.xs_instr.specs.declared.state.Mode.TheVariants.{Running, Trapped, Unused, Waiting}
+use Rattle.xs_instr.specs.declared.state.Item.{Item}
 use Rattle.xs_instr.specs.declared.state.Sent.{Sent}
 use Rattle.xs_instr.specs.declared.state.Thread.{Thread}
 use Rattle.xs_instr.specs.declared.trace.Record.{Record}
 use Rattle.xs_instr.specs.Did.{Did, Idle, Paused}
-use Rattle.xs_instr.specs.Machine.{Event, Machine, Move, Step, Tick, does, home_of, link_of, move_at, step_at, stepped, tick_at}
+use Rattle.xs_instr.specs.Machine.{Event, Machine, Move, Step, Tick, does, home_of, link_of, move_at, move_to, step_at, stepped, tick_at}
 use Rattle.xs_instr.specs.Pool.{all_wait}
 use Rattle.xs_instr.specs.Slot.{slot, turn_at, turn_of}
 use Rattle.xc_meaning.specs.States.Branches.{Branch, Mode, runs, waits, ended, erred}
@@ -34,6 +35,7 @@ use Rattle.xr_simulation.proofs.Par.Opens.{begins_followed}
 use Rattle.xr_simulation.proofs.Par.Acquisitions.{hand_sync, silent_followed}
 use Rattle.xr_simulation.proofs.Channels.InTransfers as rows
 use Rattle.xr_simulation.proofs.Channels.InTransfers.{IsFollowed, behind_step, followed}
+use Rattle.xr_simulation.proofs.Channels.Deliveries.{move_followed}
 use Rattle.xr_simulation.proofs.Channels.InputRows.{input_followed}
 use Rattle.xr_simulation.proofs.Par.Joins as joined
 use Rattle.xr_simulation.proofs.Par.Joins.{joins_followed}
@@ -45,7 +47,6 @@ use Rattle.xr_simulation.proofs.ItemCode.SelectTurns.{SelectGoes}
 use Rattle.xr_simulation.proofs.OwnSteps.Events.{rests_alone}
 use Rattle.xr_simulation.proofs.Par.Resumes as resumes
 use Rattle.xr_simulation.proofs.Par.Resumes.{resumes_followed}
-use Rattle.xr_simulation.proofs.Relation.Links.{link_empty}
 use Rattle.xr_simulation.proofs.Relation.Lasting.{Follows}
 use Rattle.xr_simulation.proofs.Relation.Ticks.{no_machine, tick_followed}
 use Rattle.xr_simulation.proofs.Channels.TransferErrs.{errs_followed}
@@ -397,10 +398,26 @@ module _ (moment : Moment none_rests) (m : Machine) where
     follows = tick_followed moment c a at_c m e;
   }
 
+  -- what comes over a link
+  at_end_core : (from to : ℕ) (i : Item) (rest : List Item) → link_of w.machine.links from to ≡ i ∷ rest → (o : Option CoreState) →
+      slice_get w.machine.cores to ≡ o → move_to w.machine from to i rest o ≡ Some m → FollowsSo g who w x (watched_after w (Move from to) m)
+  at_end_core from to i rest on_link None at e = no_machine m e
+  at_end_core from to i rest on_link (Some a) at e = record {
+    core = 0;
+    there = omega arith;
+    may_rest = none_rests;
+    elsewhere = λ d u ne. refl;
+    follows = subst (λ n. Follows g none_rests who w x (watched_after w (Move from to) n)) (same_Some _ m e)
+        (move_followed moment from to a at i rest on_link);
+  }
+
+  at_link : (from to : ℕ) (items : List Item) → link_of w.machine.links from to ≡ items → move_at w.machine from to items ≡ Some m →
+      FollowsSo g who w x (watched_after w (Move from to) m)
+  at_link from to [] on_link e = no_machine m e
+  at_link from to (i ∷ rest) on_link e = at_end_core from to i rest on_link (slice_get w.machine.cores to) refl e
+
   -- Each event is followed by a piece of the program's run; behind it some threads may be at rest.
   pub event_answered : (event : Event) → does g.image g.stimulus w.machine event ≡ Some m → FollowsSo g who w x (watched_after w event m)
   event_answered (Step c t) h = at_core c t (slice_get w.machine.cores c) refl h
   event_answered (Tick c) h = at_clock c (slice_get w.machine.cores c) refl h
-  event_answered (Move from to) h =
-      let empty : link_of w.machine.links from to ≡ [] = ap (λ l. link_of l from to) st.links ∙ link_empty from to in
-      no_machine m (sym (ap (move_at w.machine from to) empty) ∙ h)
+  event_answered (Move from to) h = at_link from to (link_of w.machine.links from to) refl h

@@ -5,9 +5,10 @@ use Rattle.std.proofs.lemmas.Bool.{eqb-true, ne_eqb}
 use Rattle.std.proofs.lemmas.Option.{same_Some}
 use Rattle.std.proofs.Math.Nat.{mul-le-mul_left}
 use Rattle.xs_instr.specs.declared.state.CoreState.{CoreState}
+use Rattle.xs_instr.specs.declared.state.Sent.{Sent}
 use Rattle.xs_instr.specs.declared.state.Thread.{Thread}
 use Rattle.xs_instr.specs.declared.trace.Record.{Record}
-use Rattle.xs_instr.specs.Machine.{noted, no_links}
+use Rattle.xs_instr.specs.Machine.{noted}
 use Rattle.xc_disjoint.specs.Needs.{threads_on}
 use Rattle.xc_invariants.specs.Tree.{IsWaiting}
 use Rattle.xc_meaning.specs.Counts.Families.{steps_of}
@@ -41,7 +42,7 @@ use Rattle.xr_simulation.proofs.Relation.Pools.{num_is}
 use Rattle.xr_simulation.proofs.Relation.Reserves.{GiveAsBefore, reserves_behind, reserves_of_others}
 use Rattle.xr_simulation.proofs.Relation.Seats.{IsSeated, goes_on, role_cases, role_far, role_here, role_other, roles_go_on, with_role}
 use Rattle.xr_simulation.proofs.Relation.Lasting.{Follows, get_set_cases, told_by}
-use Rattle.xr_simulation.proofs.Relation.Events.{answered, clocks_still, far_steps_still, has_stepped, steps_still, watched}
+use Rattle.xr_simulation.proofs.Relation.Events.{answered, clocks_still, far_steps_as_long, has_sent, steps_as_long, watched, watched_sending}
 use Rattle.xr_simulation.proofs.Relation.Usage.{OthersUsed, used_on}
 use Rattle.xr_simulation.proofs.Channels.Wiring.{TransfersAsBefore, wired_still}
 use Rattle.xc_kernel.specs.Eval.{words_of}
@@ -355,7 +356,7 @@ module _ {moment : Moment none_rests} (thread_at : ThreadAt moment None)
     pub wired_on : e.transfer ≡ r.transfer → e.left.ends ≡ a.ends → e.world.inboxes ≡ x.state.inboxes →
         AreWired g who_on watched_on.machine e.world
     wired_on same ends boxes =
-        wired_still g who who_on w.machine watched_on.machine c a e.left x.state e.world (own_transfers same) at_c refl ends boxes st.wired
+        wired_still g who who_on w.machine watched_on.machine c a e.left x.state e.world (own_transfers same) at_c refl refl ends boxes st.wired
 
     -- a branch that hasn't ended has its side for itself still
     pub alone_on : e.transfer ≡ r.transfer → (e.next.mode ≡ ended → ⊥) → (transfer : Transfer) → e.transfer ≡ Some transfer → HasAlone e.world.branches transfer.channel transfer.side r.branch
@@ -372,25 +373,26 @@ module _ {moment : Moment none_rests} (thread_at : ThreadAt moment None)
       pub stepped : HasStepped w w' c a e.left
       pub clocks : map clock_of w'.machine.cores ≡ e.world.clocks
       pub trace : w'.machine.trace ≡ noted w.machine.trace e.made
-      pub links : w'.machine.links ≡ no_links
       pub steps : (u : ℕ) → only_thread t u ≡ false → (w'.lives c u).steps ≡ (w.lives c u).steps
       pub far_steps : (d u : ℕ) → d ≢ c → (w'.lives d u).steps ≡ (w.lives d u).steps
       pub named : AreNamed g who w x → AreNamed g who_on w' (told_by g.program g.stimulus x piece e.world)
 
-    -- a step of the thread is one
-    pub is_step : IsEvent watched_on
-    is_step =
+    -- a step of the thread is one, with which this is sent over links
+    abbrev pub watched_behind : List Sent → Watched
+    watched_behind sent = watched_sending thread_at (only_thread t) (eq-eqb t t refl) e.left e.world own_effect e.made sent
+
+    pub is_step : (sent : List Sent) → IsEvent (watched_behind sent)
+    is_step sent =
         let o = only_thread t in
         let self = eq-eqb t t refl in
         record {
-          stepped = has_stepped thread_at o self e.left e.world own_effect e.made e.guarantee.sizes;
+          stepped = has_sent thread_at o self e.left e.world own_effect e.made sent e.guarantee.sizes;
           clocks = clocks_still thread_at o self e.left e.world own_effect e.made;
           trace = refl;
-          links = st.links;
-          steps = λ u m. steps_still thread_at o self e.left e.world own_effect e.made u m;
-          far_steps = λ d u ne. far_steps_still thread_at o self e.left e.world own_effect e.made d u ne;
+          steps = λ u m. steps_as_long thread_at o self e.left e.world own_effect e.made sent u m;
+          far_steps = λ d u ne. far_steps_as_long thread_at o self e.left e.world own_effect e.made sent d u ne;
           named = λ names.
-              own_linked g none_rests who w x st names watched_on.machine c t a e.left at_c at_left r s runs_r refl
+              own_linked g none_rests who w x st names (watched_behind sent).machine c t a e.left at_c at_left r s runs_r refl
               (told_by g.program g.stimulus x piece e.world) own_goes e.syncs others_there;
         }
 
@@ -441,7 +443,6 @@ module _ {moment : Moment none_rests} (thread_at : ThreadAt moment None)
                   steps = event.steps;
                   far_steps = event.far_steps;
                   stand = own_stand;
-                  links = event.links;
                   wired = wired;
                   alone = own_alone;
                   loose = loose_on;
@@ -461,4 +462,4 @@ module _ {moment : Moment none_rests} (thread_at : ThreadAt moment None)
         ((transfer : Transfer) → e.transfer ≡ Some transfer → HasAlone e.world.branches transfer.channel transfer.side r.branch) →
         RunsBranch g s (may_rest' c t) None e.left e.world (watched_on.lives c t) (told_by g.program g.stimulus x piece e.world).actions e.next →
         Follows g may_rest' who w x watched_on
-    goes_on_answered wired alone stand = event_follows watched_on is_step wired alone stand
+    goes_on_answered wired alone stand = event_follows watched_on (is_step []) wired alone stand

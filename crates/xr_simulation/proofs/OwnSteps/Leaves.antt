@@ -139,8 +139,7 @@ module _ {moment : Moment none_rests} (thread_at : ThreadAt moment None)
                   let at : u ≡ t = eqb-true u t m in
                   let actions = (told_by g.program g.stimulus x piece e.world).actions in
                   subst (ThreadRel g false e.left e.world (watched_off.lives c u) actions) (sym (ap (who_off c) at ∙ role_here who c t unused)) tt;
-              links = st.links;
-              wired = wired_still g who who_off w.machine watched_off.machine c a e.left x.state e.world (off_transfers none) at_c refl
+              wired = wired_still g who who_off w.machine watched_off.machine c a e.left x.state e.world (off_transfers none) at_c refl refl
                   ends boxes st.wired;
               alone = λ u i hand transfer m at its.
                   let both : unused ≡ used_by i hand = sym (role_here who c t unused) ∙ ap (who_off c) (sym (eqb-true u t m)) ∙ at in

@@ -729,8 +729,7 @@ module _ {moment : Moment none_rests} (thread_at : ThreadAt moment None)
             steps = λ u m. steps_still thread_at moved own_moved left world effect None u m;
             far_steps = λ d u ne. far_steps_still thread_at moved own_moved left world effect None d u ne;
             stand = λ u m. stand_by u m (roles_after.place g who c t st.roles r runs_r p ps parents n sync c u);
-            links = st.links;
-            wired = wired_still g who who' w.machine watched'.machine c a left x.state world transfers_still at_c refl refl refl st.wired;
+            wired = wired_still g who who' w.machine watched'.machine c a left x.state world transfers_still at_c refl refl refl refl st.wired;
             alone = λ u q hand transfer m at its. absurd (none_inside u q hand transfer m at its (roles_after.place g who c t st.roles r runs_r p ps parents n sync c u));
             loose = loose';
             roots = st.roots c a at_c ∙ sym (living_still c);

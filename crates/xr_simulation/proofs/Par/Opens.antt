@@ -823,8 +823,7 @@ module _ {moment : Moment none_rests} {hand : Option Acquired} (thread_at : Thre
             steps = λ u m. steps_still thread_at moved own_moved left world effect None u m;
             far_steps = λ d u ne. far_steps_still thread_at moved own_moved left world effect None d u ne;
             stand = λ u m. stand_by u m (place_at c u);
-            links = st.links;
-            wired = wired_still g who who' w.machine watched'.machine c a left x.state world transfers_still at_c refl refl refl st.wired;
+            wired = wired_still g who who' w.machine watched'.machine c a left x.state world transfers_still at_c refl refl refl refl st.wired;
             alone = λ u q other transfer m at its. absurd (none_inside u q other transfer m at its (place_at c u));
             loose = loose';
             roots = st.roots c a at_c ∙ sym (living_still c);

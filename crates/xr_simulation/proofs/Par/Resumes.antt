@@ -316,8 +316,7 @@ module _ {moment : Moment none_rests} {n : ℕ} (thread_at : ThreadAt moment (gi
                 steps = λ u m. steps_still thread_at (λ u. nat_eq u t) self left x.state effect None u m;
                 far_steps = λ d u ne. far_steps_still thread_at (λ u. nat_eq u t) self left x.state effect None d u ne;
                 stand = own_stand;
-                links = st.links;
-                wired = wired_still g who who' w.machine watched'.machine c a left x.state x.state transfers_still at_c refl refl
+                wired = wired_still g who who' w.machine watched'.machine c a left x.state x.state transfers_still at_c refl refl refl
                     refl st.wired;
                 alone = λ u q hand transfer m at its. let k = runner_before c u q hand at in st.alone c u q k.0 transfer k.1 its;
                 loose = loose';

@@ -25,29 +25,29 @@ use Rattle.xl_chan.specs.Protocols as protocol
 use Rattle.xl_chan.specs.Protocols.{Acts, sends}
 use Rattle.xl_image.specs.Images.{pair_of}
 use Rattle.xl_par.specs.Acquired.{Acquired}
+use Rattle.xl_plan.specs.Layout.{core_of}
 use Rattle.xr_match.specs.Implements.{IsQuietMachine}
 use Rattle.xr_simulation.specs.Runners.{IsChannel, Runner, Setting, end_place, home}
 use Rattle.xr_simulation.specs.ThreadViews.{ThreadView, running}
 use Rattle.xr_simulation.specs.MatchStates.{none_rests}
 use Rattle.xr_simulation.specs.Transfers.{GoesWith, IsAwaiting, Transfer, acts_left, items_behind}
 use Rattle.xr_simulation.specs.NextStep.{CannotAct, Communicates, InTransfer, IsBehind, Runs, TakesSteps, puts_out, takes_in}
-use Rattle.xr_simulation.specs.Wired.{AreSidesOn, IsLine, boxes_in}
+use Rattle.xr_simulation.specs.Wired.{IsLine, boxes_in}
 use Rattle.xr_simulation.proofs.Channels.Inboxes.{line_parcels}
-use Rattle.xr_simulation.proofs.Channels.Ends.{end, near_end}
+use Rattle.xr_simulation.proofs.Channels.Ends.{end, quiet_end}
 use Rattle.xr_simulation.proofs.ItemCode.Evaluations.{item_acts}
 use Rattle.xr_simulation.proofs.Relation.Moments.{Moment, ThreadAt}
 use Rattle.xr_simulation.proofs.Relation.CoreSteps.{works_at}
 use Rattle.xr_simulation.proofs.Channels.PieceStarts.{piece_channel, piece_uses}
-use Rattle.xr_simulation.proofs.Quiet.Sides.{IsStuck, awaiting_sent, checks_wait, each_stuck, sends_wait, word_waits}
+use Rattle.xr_simulation.proofs.Quiet.Sides.{IsStuck, awaiting_sent, checks_wait, each_stuck, nothing_moves, sends_wait, word_waits}
 use Rattle.xr_simulation.proofs.Channels.TransferBegins as begins
 use Rattle.xr_simulation.proofs.Channels.TransferBegins.{core_there, line_there, spot_there}
 use Rattle.xr_simulation.proofs.Channels.Wiring.{wired_inside}
 use Rattle.xr_channels.specs.Phases.{Phase, awaits_ack, between, checks_end, closes, offers, opens, sends_ack, sends_end, side_state, streams, was_closed}
 use Rattle.xr_channels.specs.Channels.{Ghosts}
 use Rattle.xr_channels.proofs.All.Frames.{parcels}
-use Rattle.xr_channels.proofs.All.Near.{NearEnd}
-use Rattle.xr_channels.proofs.All.NearPauses.{Goes, chkct_ack_paused, chkct_end_paused, goes, in_paused}
-use Rattle.xr_channels.proofs.All.NearPlain.{has_credit, has_credits, nothing_came, nothing_owed}
+use Rattle.xr_channels.proofs.All.QuietPauses.{Goes, QuietEnd, chkct_ack_paused, chkct_end_paused, in_paused}
+use Rattle.xr_channels.proofs.All.QuietPlain.{has_credit, has_credits, nothing_came, nothing_owed}
 use Rattle.xr_channels.proofs.Sides.Plain.{IsPlain}
 use Rattle.xr_channels.proofs.Sides.Sources.{answer_waits, input_waits}
 
@@ -121,27 +121,28 @@ module _ (moment : Moment none_rests)
     stands_on branch known channel side stands_in = ap (λ l. slice_index_or l channel None) (sides_are branch known) ∙ stands_in
 
     -- At a side of a channel.
-    module _ (channel : ℕ) (side : Side) (line : ℕ) (is_line : IsLine g.program line channel) (on_core : AreSidesOn g.program channel c) where
+    module _ (channel : ℕ) (side : Side) (line : ℕ) (is_line : IsLine g.program line channel)
+        (on_core : core_of g.program channel side ≡ c) where
       abbrev its_pair : Pair
       its_pair = pair_of g.program channel
 
       abbrev its_end : ChanEnd
       its_end = end thread_at channel side line is_line on_core
 
-      abbrev its_near : NearEnd
-      its_near = near_end thread_at channel side line is_line on_core
+      abbrev its_quiet : QuietEnd
+      its_quiet = quiet_end thread_at channel side line is_line on_core (nothing_moves moment quiet)
 
       -- a step that sends a token goes on
       one_sent : (f : Phase) → IsPlain f → ghosts.side_states line side ≡ side_state f false → nat_le 1 its_end.credits ≡ false → ⊥
       one_sent f plain spot_is few =
           let s = each_stuck moment quiet line channel (other_side side) is_line in
-          has_credit its_near f s.phase spot_is s.spot_is plain s.plain few
+          has_credit its_quiet f s.phase spot_is s.spot_is plain s.plain few
 
       -- and so does one that sends a word, between pieces
       four_sent : ghosts.side_states line side ≡ side_state between false → nat_le 4 its_end.credits ≡ false → ⊥
       four_sent spot_is few =
           let s = each_stuck moment quiet line channel (other_side side) is_line in
-          has_credits its_near between s.phase spot_is s.spot_is tt s.plain refl few
+          has_credits its_quiet between s.phase spot_is s.spot_is tt s.plain refl few
 
       -- a check of an END goes on
       end_come : ghosts.side_states line side ≡ side_state checks_end false → its_end.tokens ≡ [] → ⊥
@@ -150,9 +151,9 @@ module _ (moment : Moment none_rests)
           by : (s : IsStuck moment quiet line channel (other_side side)) →
               IsAwaiting s.phase ⊎ (Goes w.machine.cores boxes ghosts line its_pair (other_side side) → ⊥) → ⊥
           by s (inl h) =
-              let owed = nothing_owed its_near checks_end s.phase spot_is s.spot_is (awaiting_sent s.phase h) none refl in
+              let owed = nothing_owed its_quiet checks_end s.phase spot_is s.spot_is (awaiting_sent s.phase h) none refl in
               cc
-          by s (inr stays) = stays (chkct_end_paused its_near false spot_is none)
+          by s (inr stays) = stays (chkct_end_paused its_quiet false spot_is none)
 
       -- where no answer comes, the inbox is empty
       no_answer : (v : ℕ) → ghosts.side_states line side ≡ side_state (awaits_ack (offers v)) false → its_end.tokens ≡ [] → parcels boxes line side ≡ []
@@ -161,15 +162,15 @@ module _ (moment : Moment none_rests)
           by : (s : IsStuck moment quiet line channel (other_side side)) →
               IsAwaiting s.phase ⊎ (Goes w.machine.cores boxes ghosts line its_pair (other_side side) → ⊥) → parcels boxes line side ≡ []
           by s (inl h) =
-              nothing_came its_near (awaits_ack (offers v)) s.phase spot_is s.spot_is (awaiting_sent s.phase h) none refl refl
+              nothing_came its_quiet (awaits_ack (offers v)) s.phase spot_is s.spot_is (awaiting_sent s.phase h) none refl refl
           by s (inr stays) =
               ⊎_elim (λ e. e) (λ go. absurd (stays go))
-              (chkct_ack_paused its_near (offers v) false spot_is none)
+              (chkct_ack_paused its_quiet (offers v) false spot_is none)
 
       -- and where no word comes it is too
       no_word : ghosts.side_states line side ≡ side_state between false → take_word its_end.tokens ≡ NotYet → length its_end.tokens < 4 → parcels boxes line side ≡ []
       no_word spot_is slow few =
-          in_paused its_near false spot_is slow few
+          in_paused its_quiet false spot_is slow few
 
       -- so it is the program's
       its_inbox : parcels boxes line side ≡ [] → parcels x.state.inboxes channel side ≡ []
@@ -179,7 +180,7 @@ module _ (moment : Moment none_rests)
     record BeginsOn (channel : ℕ) (side : Side) : Type 0 where
       line : ℕ
       is_line : IsLine g.program line channel
-      on_core : AreSidesOn g.program channel c
+      on_core : core_of g.program channel side ≡ c
       spot_is : ghosts.side_states line side ≡ side_state between false
 
     -- where the next item uses the channel, and the thread is inside no transfer
@@ -236,7 +237,7 @@ module _ (moment : Moment none_rests)
         side : Side
         side = transfer.side
 
-        at : (line : ℕ) × IsLine g.program line channel × AreSidesOn g.program channel c
+        at : (line : ℕ) × IsLine g.program line channel × (core_of g.program channel side ≡ c)
         at = st.wired.listed c t channel side (record { runner = r; hand = hand; runs = runs_r; transfer = transfer; is = its; channel_is = refl; side_is = refl })
 
         line : ℕ

@@ -10,6 +10,7 @@ use Rattle.xs_instr.specs.declared.state.Regs.{Regs}
 use Rattle.xs_instr.specs.declared.state.Thread.{Thread}
 use Rattle.xs_instr.specs.declared.state.Token.{Token}
 use Rattle.xs_instr.specs.Ends.{NotYet, control_token, take_word}
+use Rattle.xs_instr.specs.Machine.{link_of}
 use Rattle.xs_instr.specs.Rows.{gets_with, goes_with, put_ends}
 use Rattle.xc_meaning.specs.States.Branches.{Branch, Mode, ended, erred, runs, waits}
 use Rattle.xc_meaning.specs.States.Channels.{Inboxes, Side, other_side}
@@ -18,6 +19,7 @@ use Rattle.xl_chan.specs.Protocols as protocol
 use Rattle.xl_chan.specs.Protocols.{Act, Acts, sends, takes_word}
 use Rattle.xl_image.specs.Images.{pair_of}
 use Rattle.xl_par.specs.Acquired.{Acquired}
+use Rattle.xl_plan.specs.Layout.{core_of}
 use Rattle.xr_match.specs.Implements.{IsQuietMachine}
 use Rattle.xr_simulation.specs.Roles.{used_by}
 use Rattle.xr_simulation.specs.Runners.{Runner, end_place, home}
@@ -25,8 +27,8 @@ use Rattle.xr_simulation.specs.ThreadViews.{ThreadView, running}
 use Rattle.xr_simulation.specs.MatchStates.{RunsBranch, ProgressBy, ProgressWith, none_rests}
 use Rattle.xr_simulation.specs.Transfers.{GoesWith, IsAwaiting, StopsIn, Transfer, acts_left, items_behind}
 use Rattle.xr_simulation.specs.NextStep.{IsBehind, TakesSteps}
-use Rattle.xr_simulation.specs.Wired.{AreSidesOn, IsLine, IsTransferring, SideIs, idle, boxes_in, in_transfer}
-use Rattle.xr_simulation.proofs.Channels.Ends.{acts_there, end, end_is, near_end}
+use Rattle.xr_simulation.specs.Wired.{IsLine, IsTransferring, SideIs, idle, boxes_in, in_transfer}
+use Rattle.xr_simulation.proofs.Channels.Ends.{acts_there, end, end_is, quiet_end}
 use Rattle.xr_simulation.proofs.Relation.Moments.{Moment, ThreadAt, thread_of}
 use Rattle.xr_simulation.proofs.Relation.CoreSteps.{core_of as the_core, stands_at}
 use Rattle.xr_simulation.proofs.Quiet.Slots.{lacks_credits, lacks_tokens, lacks_word}
@@ -34,7 +36,8 @@ use Rattle.xr_simulation.proofs.Channels.Wiring.{wired_inside}
 use Rattle.xr_simulation.proofs.OwnSteps.Branch.{some_is}
 use Rattle.xr_channels.specs.Phases.{Direction, Phase, SideState, awaits_ack, between, checks_end, closes, offers, opens, sends_ack, sends_end, side_state, streams, unsent, was_closed}
 use Rattle.xr_channels.specs.Channels.{Ghosts, end_of_side}
-use Rattle.xr_channels.proofs.All.NearPauses.{Goes, MayGo, goes}
+use Rattle.xr_channels.proofs.All.QuietPauses.{Goes, MayGo, QuietEnd, goes}
+use Rattle.xr_channels.proofs.Laws.AnyDistance.{no_move_is_quiet}
 use Rattle.xr_channels.proofs.All.Pauses.{Enabled, may_answer, may_check, may_check_end, may_close, may_end}
 use Rattle.xr_channels.proofs.Sides.Plain.{IsPlain}
 
@@ -90,10 +93,14 @@ module _ (moment : Moment none_rests)
   abbrev ghosts : Ghosts
   ghosts = st.wired.ghosts
 
+  -- nothing is on a link
+  pub nothing_moves : (from to : ℕ) → link_of w.machine.links from to ≡ []
+  nothing_moves = no_move_is_quiet g.image g.stimulus w.machine st.wired.over.balanced quiet.moves
+
   -- A thread is at a step on the end of a side of a channel: that waits.
   module _ {hand : Option Acquired} (thread_at : ThreadAt moment hand)
       (channel : ℕ) (side : Side) (line : ℕ) (is_line : IsLine g.program line channel)
-      (on_core : AreSidesOn g.program channel thread_at.core)
+      (on_core : core_of g.program channel side ≡ thread_at.core)
       (pos : Pos) (pc : ℕ) (regs : Regs)
       (here : slice_get thread_at.state.threads thread_at.runner.thread ≡ Some (running thread_at.runner.tie pc regs)) where
     open thread_at use {core as c, thread as t, state as a, at_core as at_c, runner as r, runs as runs_r}
@@ -106,6 +113,9 @@ module _ (moment : Moment none_rests)
 
     abbrev thread : Thread
     thread = running r.tie pc regs
+
+    abbrev own_quiet : QuietEnd
+    own_quiet = quiet_end thread_at channel side line is_line on_core nothing_moves
 
     -- the end is there
     there : slice_get a.ends place_end ≡ Some own_end
@@ -137,10 +147,10 @@ module _ (moment : Moment none_rests)
     none_enabled : (f : Phase) (items : List Item) (Q : ℕ → Regs → Type 0) → GoesWith f channel pos items → TakesSteps g r channel side pos (acts_left f) Q pc regs → ghosts.side_states line side ≡ side_state f false →
         Goes w.machine.cores boxes ghosts line (pair_of g.program channel) side → ⊥
     none_enabled f items Q with_items steps spot_is go = by f with_items steps
-        (goes (near_end thread_at channel side line is_line on_core) f (ap (λ (s : SideState). s.phase) spot_is) go)
+        (goes own_quiet f (ap (λ (s : SideState). s.phase) spot_is) go)
       where
         by : (f : Phase) → GoesWith f channel pos items → TakesSteps g r channel side pos (acts_left f) Q pc regs →
-            MayGo (near_end thread_at channel side line is_line on_core) f → ⊥
+            MayGo own_quiet f → ⊥
         by between h steps may = h
         by (sends_end v) h steps may = let both : true ≡ false = sym may ∙ sends_wait (control_token 1 ∷ []) steps.0 in cc
         by (awaits_ack q) h steps may = let none = ap length (checks_wait 3 steps.0) in omega (arith, may, none)
@@ -159,8 +169,8 @@ module _ (moment : Moment none_rests)
 
   -- the side of a thread that is inside a transfer
   module _ (d u line : ℕ) (r : Runner) (hand : Option Acquired) (runs_r : who d u ≡ used_by r hand) (transfer : Transfer) (its : r.transfer ≡ Some transfer) (is_line : IsLine g.program line transfer.channel) (a : CoreState) (at_d : slice_get w.machine.cores d ≡ Some a) where
-    -- its channel is on its core
-    on_core : AreSidesOn g.program transfer.channel d
+    -- the side is on its core
+    on_core : core_of g.program transfer.channel transfer.side ≡ d
     on_core = (st.wired.listed d u transfer.channel transfer.side (record { runner = r; hand = hand; runs = runs_r; transfer = transfer; is = its; channel_is = refl; side_is = refl })).2
 
     -- and the side stands where the thread does
@@ -182,7 +192,7 @@ module _ (moment : Moment none_rests)
 
     -- one that has trapped awaited an answer
     stuck_trapped : StopsIn (Some transfer) → IsStuck line transfer.channel transfer.side
-    stuck_trapped h = record { phase = transfer.phase; plain = plain_where_awaits transfer.phase h; spot_is = spot_now; stuck = inl h }
+    stuck_trapped h = record { phase = transfer.phase; plain = plain_where_awaits transfer.phase h.0; spot_is = spot_now; stuck = inl h.0 }
 
     -- by how its branch is
     stuck_by : (branch : Branch) → RunsBranch g r false hand a x.state (w.lives d u) x.actions branch → (mode : Mode) → branch.mode ≡ mode → IsStuck line transfer.channel transfer.side

@@ -5,7 +5,7 @@ use Rattle.std.proofs.lemmas.Option.{same_Some, slice_get-map}
 use Rattle.xs_instr.specs.declared.image.Pair.{Pair}
 use Rattle.xs_instr.specs.declared.state.CoreState.{CoreState}
 use Rattle.xs_instr.specs.declared.state.Token.{Token}
-use Rattle.xs_instr.specs.Machine.{Machine, Tick, and_then, does, no_links, runs, tick_at, tick_by}
+use Rattle.xs_instr.specs.Machine.{Machine, Tick, and_then, does, runs, tick_at, tick_by}
 use Rattle.xs_instr.specs.Slot.{last_clock, ticked}
 use Rattle.xc_invariants.specs.Tree.{IsChild}
 use Rattle.xc_meaning.specs.Quiet.{IsQuiet}
@@ -119,7 +119,7 @@ module _ (g : Setting) (who : Roles) (w : Watched) (x : Counted (of_kernel g.pro
     where
       not_empty : parcels (boxes_in g.program x.state.inboxes) line side ≡ [] → ⊥
       not_empty none =
-          token_has_parcel g.image.chans is.lines.wired w.machine.cores no_links (boxes_in g.program x.state.inboxes) st.wired.ghosts st.wired.local.wires line pair side listed
+          token_has_parcel g.image.chans is.lines.wired w.machine.cores w.machine.links (boxes_in g.program x.state.inboxes) st.wired.ghosts st.wired.over.wires line pair side listed
           (has_token_at w.machine pair side arrives) none
 
       by : (c : ℕ) → IsLine g.program line c → (ps : List Parcel) → parcels x.state.inboxes c side ≡ ps → HasParcel g.program x.state line side

@@ -5,7 +5,7 @@ use Rattle.std.proofs.lemmas.Bool.{cases_eq}
 use Rattle.std.proofs.lemmas.Option.{same_Some, slice_get_within}
 use Rattle.xs_instr.specs.declared.state.CoreState.{CoreState}
 use Rattle.xs_instr.specs.declared.state.Thread.{Thread}
-use Rattle.xs_instr.specs.Machine.{Machine, no_links, parts_in}
+use Rattle.xs_instr.specs.Machine.{Machine, parts_in}
 use Rattle.xs_instr.specs.Pool.{is_tied}
 use Rattle.xc_disjoint.specs.Needs.{threads_on}
 use Rattle.xc_kernel.specs.Eval.{words_of}
@@ -81,7 +81,6 @@ pub record IsNextStanding
       Rely g s (record { core = a; world = x.state; hand = hand }) (record { core = b; world = y; hand = hand })
   pub far_rely : (d t : ℕ) (e : CoreState) (s : Runner) (hand : Option Acquired) → d ≢ c → slice_get w.machine.cores d ≡ Some e → who d t ≡ used_by s hand →
       Rely g s (record { core = e; world = x.state; hand = hand }) (record { core = e; world = y; hand = hand })
-  pub links : w'.machine.links ≡ no_links
   pub wired : AreWired g who' w'.machine y
   pub alone : (u : ℕ) (s : Runner) (hand : Option Acquired) (transfer : Transfer) → moved u ≡ true → who' c u ≡ used_by s hand → s.transfer ≡ Some transfer →
       HasAlone y.branches transfer.channel transfer.side s.branch
@@ -116,7 +115,7 @@ used_still who who' d e same h = record {
 
 -- Where a core has other ends, what threads stand on is as it was.
 
-kept_ends : (g : Setting) (s : Runner) (z : ThreadView) (e f : CoreState) (y : World) (hand : Option Acquired) → IsSameButEnds e f →
+pub kept_ends : (g : Setting) (s : Runner) (z : ThreadView) (e f : CoreState) (y : World) (hand : Option Acquired) → IsSameButEnds e f →
     Rely g s z (record { core = e; world = y; hand = hand }) → Rely g s z (record { core = f; world = y; hand = hand })
 kept_ends g s z e f y hand same k = subst (λ b. Rely g s z (record { core = b; world = y; hand = hand })) (sym same.is) (record {
   thread = k.thread;
@@ -145,11 +144,11 @@ kept_ends g s z e f y hand same k = subst (λ b. Rely g s z (record { core = b; 
       untied = h.untied;
     }
 
-used_ends : (who : Roles) (d : ℕ) (e f : CoreState) → IsSameButEnds e f → AreUsedSo who d e → AreUsedSo who d f
+pub used_ends : (who : Roles) (d : ℕ) (e f : CoreState) → IsSameButEnds e f → AreUsedSo who d e → AreUsedSo who d f
 used_ends who d e f same h = subst (AreUsedSo who d) (sym same.is)
     (record { threads = h.threads; syncs = h.syncs; unused = h.unused; got = h.got; taken = h.taken; owned = h.owned })
 
-loose_ends : (g : Setting) (who : Roles) (d : ℕ) (e f : CoreState) (y : World) → IsSameButEnds e f → AreLoose g who d e y →
+pub loose_ends : (g : Setting) (who : Roles) (d : ℕ) (e f : CoreState) (y : World) → IsSameButEnds e f → AreLoose g who d e y →
     AreLoose g who d f y
 loose_ends g who d e f y same h = subst (λ b. AreLoose g who d b y) (sym same.is) (record {
   variables = h.variables;
@@ -174,7 +173,6 @@ moves g may_rest may_rest' who who' w w' x c a b moved piece y st step next =
     record {
       clocks = next.clocks;
       trace = next.trace;
-      links = next.links;
       cores = step.as_many ∙ st.cores;
       lawful = laws_behind g x.state st.lawful piece y next.acted;
       plain = plain_behind g x.state st.lawful st.plain piece y next.acted;

@@ -1,12 +1,13 @@
 -- An event of one runner is answered by a piece of the program's run: behind it all threads stand so again.
-use Rattle.std.proofs.Common.{◌≡◌, ℕ, ◌<◌, ◌≤◌, ◌≢◌, inl, List, map, length, Option, Some, refl, sym, ap, ◌∙◌, subst}
+use Rattle.std.proofs.Common.{◌≡◌, ℕ, ◌<◌, ◌≤◌, ◌≢◌, inl, List, [], map, length, Option, Some, refl, sym, ap, ◌∙◌, subst}
 use Rattle.std.specs.Prelude.{Bool, true, false, slice_get, slice_set}
 use Rattle.std.proofs.lemmas.List.{length-set}
 use Rattle.std.proofs.lemmas.Option.{get_or_from_slice_get}
 use Rattle.std.proofs.Math.Seq.{map-set_same}
 use Rattle.xs_instr.specs.declared.state.CoreState.{CoreState}
+use Rattle.xs_instr.specs.declared.state.Sent.{Sent}
 use Rattle.xs_instr.specs.declared.trace.Record.{Record}
-use Rattle.xs_instr.specs.Machine.{Machine, Step, no_links, noted}
+use Rattle.xs_instr.specs.Machine.{Machine, Step, noted, on_links}
 use Rattle.xc_disjoint.specs.Needs.{threads_on}
 use Rattle.xc_meaning.specs.Runs.{acts_all}
 use Rattle.xc_meaning.specs.States.Branches.{Branch, has_ended}
@@ -50,7 +51,6 @@ pub record IsAnswered
   pub far_steps : (d u : ℕ) → d ≢ c → (w'.lives d u).steps ≡ (w.lives d u).steps
   pub stand : (u : ℕ) → moved u ≡ true →
       ThreadRel g (may_rest' c u) b y (w'.lives c u) (told_by g.program g.stimulus x piece y).actions (who' c u)
-  pub links : w'.machine.links ≡ no_links
   pub wired : AreWired g who' w'.machine y
   pub alone : (u : ℕ) (s : Runner) (hand : Option Acquired) (transfer : Transfer) → moved u ≡ true → who' c u ≡ used_by s hand → s.transfer ≡ Some transfer →
       HasAlone y.branches transfer.channel transfer.side s.branch
@@ -153,7 +153,6 @@ module _ {may_rest : (core thread : ℕ) → Bool} {moment : Moment may_rest} {h
               (spare_for g who' y c b (crew_behind lt) u s other (answer.same_role u m ∙ runs_s));
           far_rely = λ d u e s other ne at_d runs_s. far_others moment thread_at moved b y effect d u e s other
               ne at_d runs_s;
-          links = answer.links;
           wired = answer.wired;
           alone = answer.alone;
           loose = answer.loose;
@@ -166,29 +165,47 @@ module _ {may_rest : (core thread : ℕ) → Bool} {moment : Moment may_rest} {h
           made = answer.made;
         })
 
-  -- the machine behind the thread's step, and its lives
-  module _ (made : Option Record) where
-    abbrev pub machine_after : Machine
-    machine_after = record { cores = slice_set w.machine.cores c b; links = w.machine.links; trace = noted w.machine.trace made }
+  -- the machine behind the thread's step, which writes this down and sends that over links, and its lives
+  module _ (made : Option Record) (sent : List Sent) where
+    abbrev pub machine_sending : Machine
+    machine_sending = record {
+      cores = slice_set w.machine.cores c b;
+      links = on_links w.machine.links c sent;
+      trace = noted w.machine.trace made;
+    }
 
-    abbrev pub watched : Watched
-    watched = watched_after w (Step c t) machine_after
+    abbrev pub watched_sending : Watched
+    watched_sending = watched_after w (Step c t) machine_sending
 
-    pub has_stepped : sizes_of b ≡ sizes_of a → HasStepped w watched c a b
-    has_stepped sizes = record {
+    pub has_sent : sizes_of b ≡ sizes_of a → HasStepped w watched_sending c a b
+    has_sent sizes = record {
       was = at_c;
       is = get_set_same w.machine.cores c a b at_c;
-      others = λ d e ne at. other_same w watched d e (get_set_other w.machine.cores c d b ne) at;
+      others = λ d e ne at. other_same w watched_sending d e (get_set_other w.machine.cores c d b ne) at;
       as_many = length-set w.machine.cores c b;
       sizes = sizes;
     }
 
     -- a life that isn't moved is as long
+    pub steps_as_long : (u : ℕ) → moved u ≡ false → (watched_sending.lives c u).steps ≡ (w.lives c u).steps
+    steps_as_long u m = ap (λ (l : Life). l.steps) (other_life w machine_sending c t u a b (not_own u m) at_c (get_set_same w.machine.cores c a b at_c) (effect.threads u m))
+
+    pub far_steps_as_long : (d u : ℕ) → d ≢ c → (watched_sending.lives d u).steps ≡ (w.lives d u).steps
+    far_steps_as_long d u ne = ap (λ (l : Life). l.steps) (far_life w machine_sending c t d u ne)
+
+  -- the same where it sends nothing
+  module _ (made : Option Record) where
+    abbrev pub watched : Watched
+    watched = watched_sending made []
+
+    pub has_stepped : sizes_of b ≡ sizes_of a → HasStepped w watched c a b
+    has_stepped sizes = has_sent made [] sizes
+
     pub steps_still : (u : ℕ) → moved u ≡ false → (watched.lives c u).steps ≡ (w.lives c u).steps
-    steps_still u m = ap (λ (l : Life). l.steps) (other_life w machine_after c t u a b (not_own u m) at_c (get_set_same w.machine.cores c a b at_c) (effect.threads u m))
+    steps_still u m = steps_as_long made [] u m
 
     pub far_steps_still : (d u : ℕ) → d ≢ c → (watched.lives d u).steps ≡ (w.lives d u).steps
-    far_steps_still d u ne = ap (λ (l : Life). l.steps) (far_life w machine_after c t d u ne)
+    far_steps_still d u ne = far_steps_as_long made [] d u ne
 
     -- no clock has gone up
     pub clocks_still : map clock_of (slice_set w.machine.cores c b) ≡ y.clocks

@@ -141,8 +141,7 @@ module _ (moment : Moment none_rests)
         steps = λ u m. refl;
         far_steps = λ d u ne. refl;
         stand = λ u m. absurd (false_true m);
-        links = st.links;
-        wired = wired_still g who who w.machine watched_ticked.machine c a (ticked a) x.state later same_transfers at_c refl refl
+        wired = wired_still g who who w.machine watched_ticked.machine c a (ticked a) x.state later same_transfers at_c refl refl refl
             refl st.wired;
         alone = λ u s hand transfer m at its. absurd (false_true m);
         rely = λ u s hand m runs. kept_here u s hand runs;

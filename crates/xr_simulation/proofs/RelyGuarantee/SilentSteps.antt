@@ -244,8 +244,7 @@ module _ {moment : Moment none_rests} {hand : Option Acquired} {thread_at : Thre
             steps = λ u m. steps_still thread_at moved s.own b x.state silent_effect None u m;
             far_steps = λ d u ne. far_steps_still thread_at moved s.own b x.state silent_effect None d u ne;
             stand = silent_stand;
-            links = st.links;
-            wired = wired_still g who who' w.machine silent_watched.machine c a b x.state x.state silent_transfers at_c refl ends
+            wired = wired_still g who who' w.machine silent_watched.machine c a b x.state x.state silent_transfers at_c refl refl ends
                 refl st.wired;
             alone = λ u i other transfer m at its. let k = s.before c u i other at in st.alone c u i k.0 transfer k.1 its;
             loose = silent_loose;

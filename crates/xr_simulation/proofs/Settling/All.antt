@@ -108,7 +108,6 @@ module _ (g : Setting) (first : Roles) (is : IsImageOf g first) (w : Watched) wh
     standing_by more threads = record {
       clocks = st.clocks;
       trace = st.trace;
-      links = st.links;
       cores = st.cores;
       lawful = st.lawful;
       plain = st.plain;

@@ -249,7 +249,6 @@ module _ {may_rest : (core thread : ℕ) → Bool} {moment : Moment may_rest} (t
             steps = λ u m. refl;
             far_steps = λ i u ne. refl;
             stand = own_stand;
-            links = st.links;
             wired = wired_as g who who_settled transfers_settled w.machine x.state y d.inboxes st.wired;
             alone = λ u i other transfer m at its. absurd (none_inside u i other transfer m at its);
             loose = loose_settled;

@@ -33,7 +33,7 @@ use Rattle.xr_simulation.proofs.Start.Boot.{boot_length, set_regs, stack_leads}
 use Rattle.xr_simulation.proofs.RelyGuarantee.ThreadViews.{joins_stable, turns_stable}
 use Rattle.xr_simulation.proofs.Start.ProgramStart.{RunsRoot, none_got, root_of}
 use Rattle.xr_simulation.proofs.Start.Wires.{ends_same}
-use Rattle.xr_simulation.proofs.Channels.Wiring.{local_still}
+use Rattle.xr_channels.proofs.All.OverLinks.{over_same}
 use Rattle.xr_simulation.proofs.OwnSteps.Branch.{own_thread_of, some_is}
 
 -- the four cores as they start
@@ -260,7 +260,7 @@ module _ (g : Setting) (who : Roles) (is : IsImageOf g who) where
         let old = st.wired in
         record {
           ghosts = old.ghosts;
-          local = local_still (set_watched who g.image).machine.cores (watched_start g.image).machine.cores (λ d. sym (ends_same g who is d)) g.image.chans (boxes_in g.program x.state.inboxes) old.ghosts old.local;
+          over = over_same g.image.chans (set_watched who g.image).machine.cores (set_watched who g.image).machine.links (boxes_in g.program x.state.inboxes) old.ghosts old.over (watched_start g.image).machine.cores (λ d. sym (ends_same g who is d));
           long = old.long;
           ends = λ c a e. let d = boot_cores_are g.image c a e in ap (λ (i : CoreState). length i.ends) d.1 ∙ old.ends c (set_on g who is c) (set_core_at c d.0);
           listed = old.listed;
@@ -272,7 +272,6 @@ module _ (g : Setting) (who : Roles) (is : IsImageOf g who) where
     standing_before = record {
       clocks = st.clocks;
       trace = st.trace;
-      links = refl;
       cores = refl;
       lawful = st.lawful;
       plain = st.plain;

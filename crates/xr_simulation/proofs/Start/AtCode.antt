@@ -243,7 +243,6 @@ module _ (g : Setting) (who : Roles) (is : IsImageOf g who) where
   set_standing = record {
     clocks = refl;
     trace = refl;
-    links = refl;
     cores = refl;
     lawful = laws_begin g.program is.obeys;
     plain = is.plain;

@@ -18,10 +18,9 @@ use Rattle.xr_simulation.specs.Transfers.{Transfer}
 use Rattle.xr_simulation.specs.Wired.{AreWired, IsTransferring, idle, boxes_in}
 use Rattle.xr_simulation.proofs.Start.SetMachine.{set_cores_are, set_machine}
 use Rattle.xr_simulation.proofs.Start.ProgramStart.{root_of}
-use Rattle.xr_simulation.proofs.Channels.Wiring.{local_still}
 use Rattle.xr_channels.specs.Channels.{ends_in, start_ghosts}
 use Rattle.xr_channels.proofs.All.Chosen.{chosen_length}
-use Rattle.xr_channels.proofs.Tokens.Locals.{local_begins}
+use Rattle.xr_channels.proofs.All.OverLinks.{over_begins, over_same}
 
 -- the inboxes of a start are empty
 empty_at : (cs : List Chan) (c : ℕ) → slice_index_or (map empty_inboxes cs) c no_parcels ≡ no_parcels
@@ -77,9 +76,10 @@ module _ (g : Setting) (who : Roles) (is : IsImageOf g who) where
   pub wired_begin : AreWired g who (set_machine who g.image) (kernel_start g.program)
   wired_begin = record {
     ghosts = start_ghosts (λ k. false);
-    local = local_still (boot g.image).cores (set_machine who g.image).cores ends_same g.image.chans (boxes_in g.program boxes) (start_ghosts (λ k. false))
-        (local_begins g.image (λ k. false) (boxes_in g.program boxes) is.lines.valid
-        (λ k side. ap (λ b. parcels_at b side) (chosen_empty (two_sided g.program) g.program.channels k) ∙ nothing_at side) sized);
+    over = over_same g.image.chans (boot g.image).cores (boot g.image).links (boxes_in g.program boxes) (start_ghosts (λ k. false))
+        (over_begins g.image (λ k. false) (boxes_in g.program boxes) is.lines.valid
+        (λ k side. ap (λ b. parcels_at b side) (chosen_empty (two_sided g.program) g.program.channels k) ∙ nothing_at side) sized)
+        (set_machine who g.image).cores ends_same;
     long = as_many g.program.channels;
     ends = λ c a e. let d = set_cores_are who g.image c a e in ap (λ (i : CoreState). length i.ends) d.1 ∙ length-replicate (parts_in g.image.cores c).ends boot_end;
     listed = λ core thread c side h. absurd (none_transfers core thread c side h);
