@@ -69,14 +69,14 @@ IsRootRole g unused = Unit {0}
 IsRootRole g (used_by r None) = (root : kernel.Root) × IsRoot g r root
 IsRootRole g other = ⊥
 
--- Each channel with two sides has its line in the image, with the ends of its sides; a core uses it where they are.
+-- Each channel with two sides has its line in the image, with the ends of its sides; one that a core uses has both there.
 pub record AreLines (g : Setting) : Type 0 where
   pub valid : Valid g.image
   pub wired : IsWired g.image.chans
   pub line : (line c : ℕ) → IsLine g.program line c → slice_get g.image.chans line ≡ Some (pair_of g.program c)
   pub channel : (line : ℕ) (p : Pair) → slice_get g.image.chans line ≡ Some p → (c : ℕ) × IsLine g.program line c
-  pub used : (core c : ℕ) → c < length g.program.channels → is_used_on g.program core c ≡ true →
-      AreSidesOn g.program c core × ((line : ℕ) × IsLine g.program line c)
+  pub used : (core c : ℕ) → c < length g.program.channels → is_used_on g.program core c ≡ true → (line : ℕ) × IsLine g.program line c
+  pub near : (core c : ℕ) → c < length g.program.channels → is_used_on g.program core c ≡ true → AreSidesOn g.program c core
   pub ends : (line : ℕ) (p : Pair) (side : Side) → slice_get g.image.chans line ≡ Some p →
       (end_of_side p side).end < (parts_in g.image.cores (end_of_side p side).core).ends
 

@@ -301,18 +301,19 @@ module _ (g : Setting) (r : Runner) where
   DefaultAt (Some body) rest most index =
       (exits : List Exit) × (jumps : ℕ) × (jumps ≤ most) × ItemsFrom (body_items body rest) exits index jumps
 
-  -- A channel's side in which it stands has its end on the runner's core.
-  abbrev pub HasEndHere : KRes → Type 0
-  HasEndHere (resource.Port p) = Unit {0}
-  HasEndHere (resource.Timer t) = Unit {0}
-  HasEndHere (resource.Chan c) = (side : Side) × (slice_index_or r.sides c None ≡ Some side) × (core_of g.program c side ≡ r.core)
+  -- a transfer over a channel is on a side of it in which the branch stands, whose end is on the runner's core
+  abbrev pub IsOnSide : KRes → Type 0
+  IsOnSide (resource.Port p) = Unit {0}
+  IsOnSide (resource.Timer t) = Unit {0}
+  IsOnSide (resource.Chan c) =
+      (side : Side) × (slice_index_or r.sides c None ≡ Some side) × (core_of g.program c side ≡ r.core)
 
   -- A thread stands at its select, with j jumps between what is left: it takes events there, its enabled cases are set up, each one's
   -- vector leads to the case's code, and the default's stands behind the instruction that looks for an event once.
   pub record StandsAtSelect (choices : List Choice) (otherwise : Option Body) (rest : List Item) (j pc : ℕ) (core : CoreState) : Type 0 where
     pub code : WaitsAt (home g r) pc otherwise
     pub armed : IsArmed resources_here r.thread choices core
-    pub ends : (n : ℕ) (c : Choice) → slice_get choices n ≡ Some c → HasEndHere c.input.resource
+    pub ends : (n : ℕ) (c : Choice) → slice_get choices n ≡ Some c → IsOnSide c.input.resource
     pub at_cases : (n : ℕ) (c : Choice) → slice_get choices n ≡ Some c →
         CaseAt c.input.resource c.input (body_items c.body rest) (j + 1) (vector_of core.events (res_of resources_here c.input.resource))
     pub at_default : DefaultAt otherwise rest (j + 1) (pc + 1)
@@ -544,12 +545,13 @@ module _ (g : Setting) (r : Runner) where
   abbrev pub IsBehind : List Item → (j index : ℕ) → Regs → Type 0
   IsBehind items j index regs = HasBases regs × (is_watching items ≡ false) × ((core : CoreState) → IsPlacedAt items j index regs core)
 
-  -- the branch has this transfer to do next, on a side of its channel in which it stands
+  -- the branch has this transfer to do next, on a side of its channel in which it stands, whose end is on the runner's core
   pub record IsOnChannel (used : KRes) : Type 0 where
     pub channel : ℕ
     pub is_channel : used ≡ resource.Chan channel
     pub side : Side
     pub stands_in : slice_index_or r.sides channel None ≡ Some side
+    pub here : core_of g.program channel side ≡ r.core
 
   -- from an index on the thread takes these steps on an end of its core, and then P holds of the index and the registers there
   abbrev pub TakesSteps : (channel : ℕ) → Side → Pos → List Act → (P : ℕ → Regs → Type 0) → (pc : ℕ) → Regs → Type 0
@@ -630,12 +632,7 @@ module _ (g : Setting) (r : Runner) where
   abbrev pub cost : ℕ
   cost = 8 * greatest g r + 8
 
-  -- a transfer over a channel is on a side of it in which the branch stands
-  abbrev pub IsOnSide : KRes → Type 0
-  IsOnSide (resource.Port p) = Unit {0}
-  IsOnSide (resource.Timer t) = Unit {0}
-  IsOnSide (resource.Chan c) = (side : Side) × (slice_index_or r.sides c None ≡ Some side)
-
+  -- each case of a select is on a side of its channel
   abbrev pub CasesOnSides : kernel.Cases → Type 0
   CasesOnSides kernel.no_case = Unit {0}
   CasesOnSides (kernel.more_cases (kernel.case guard i ss) cs) = IsOnSide i.resource × CasesOnSides cs

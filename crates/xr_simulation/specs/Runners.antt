@@ -177,13 +177,12 @@ module _ (g : Setting) (r : Runner) where
     pub known : c < length g.program.channels
     pub used : is_used_on g.program r.core c ≡ true
 
-  -- the plan has the identifier of a side's end, which is on the runner's core
+  -- the plan has the identifier of a side's end on the runner's core
   pub record EndIsPlanned (c : ℕ) (side : Side) : Type 0 where
     pub place : ℕ
     pub is : end_of_side (slice_get plan.channels c) (Some side) ≡ Some place
     pub identifier : end_in plan.ends place ≡ Some (Fixed (end_name r.core (end_place c side)))
     pub names : named home.number (end_name r.core (end_place c side)) ≡ AnEnd (end_place c side)
-    pub here : core_of g.program c side ≡ r.core
     pub there : end_place c side < home.parts.ends
 
   -- a port of the runner's, as the kernel has it
@@ -230,8 +229,8 @@ module _ (g : Setting) (r : Runner) where
   IsMine (ResEnd n) = IsOwnEnd n
 
   -- Its block is the outermost, the variables of its core stand near, no two of them share a word, and none is a temporary one of
-  -- the runner's. Its ports, its timers and its channels' ends have the identifiers that the plan gives them, and are among those of the
-  -- core. Different ones have different places, for each of which there is a watch.
+  -- the runner's. Its ports, its timers and the ends of its channels' sides on its core have the identifiers that the plan gives them, and
+  -- are among those of the core. Different ones have different places, for each of which there is a watch.
   pub record IsLaidOut : Type 0 where
     pub block : r.block ≡ outside
     pub frame : Frame (places g r.core) relied r.footprint.uses r.stack 0
@@ -245,10 +244,11 @@ module _ (g : Setting) (r : Runner) where
     pub timer_names : (t : ℕ) (listed : Timer) → IsTimer t listed →
         named home.number (timer_name r.core (timer_place t)) ≡ ATimer (timer_place t)
     pub timers : (t : ℕ) (listed : Timer) → IsTimer t listed → timer_place t < home.parts.timers
-    pub ends : (c : ℕ) (side : Side) → IsChannel c → EndIsPlanned c side
+    pub ends : (c : ℕ) (side : Side) → IsChannel c → core_of g.program c side ≡ r.core → EndIsPlanned c side
     pub few_ports : (p : ℕ) (listed : PortUse) → IsPort p listed → port_place p < most_watches
     pub few_timers : (t : ℕ) (listed : Timer) → IsTimer t listed → timer_place t < most_watches
-    pub few_ends : (c : ℕ) (side : Side) → IsChannel c → end_place c side < most_watches
+    pub few_ends : (c : ℕ) (side : Side) → IsChannel c → core_of g.program c side ≡ r.core → end_place c side < most_watches
     pub ports_differ : (p q : ℕ) (listed other : PortUse) → IsPort p listed → IsPort q other → port_place p ≡ port_place q → p ≡ q
     pub timers_differ : (t u : ℕ) (listed other : Timer) → IsTimer t listed → IsTimer u other → timer_place t ≡ timer_place u → t ≡ u
-    pub ends_differ : (c d : ℕ) (side other : Side) → IsChannel c → IsChannel d → end_place c side ≡ end_place d other → c ≡ d
+    pub ends_differ : (c d : ℕ) (side other : Side) → IsChannel c → core_of g.program c side ≡ r.core → IsChannel d →
+        core_of g.program d other ≡ r.core → end_place c side ≡ end_place d other → c ≡ d

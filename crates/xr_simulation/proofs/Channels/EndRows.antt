@@ -70,17 +70,17 @@ pub record AtEnd {moment : Moment none_rests} (thread_at : ThreadAt moment None)
 pub begins_there : {moment : Moment none_rests} (thread_at : ThreadAt moment None) → thread_at.runner.transfer ≡ None → (branch : Branch) →
     slice_get moment.told.state.branches thread_at.runner.branch ≡ Some branch → branch.mode ≡ runs → (channel : ℕ) (side : Side) →
     IsChannel moment.setting thread_at.runner channel → IsTrue (by_items (uses_channel channel) branch.items) →
-    side_of branch channel ≡ Some side →
+    side_of branch channel ≡ Some side → core_of moment.setting.program channel side ≡ thread_at.runner.core →
     AtEnd thread_at channel side between []
-begins_there {moment} thread_at none branch known on channel side is_channel uses stands =
+begins_there {moment} thread_at none branch known on channel side is_channel uses stands here =
     record {
-      line = begin.line thread_at none branch known on channel side is_channel uses stands;
-      is_line = begin.line_there thread_at none branch known on channel side is_channel uses stands;
-      on_core = begin.core_there thread_at none branch known on channel side is_channel uses stands;
-      stands = begin.spot_there thread_at none branch known on channel side is_channel uses stands;
-      late_is = begin.late_there thread_at none branch known on channel side is_channel uses stands;
+      line = begin.line thread_at none branch known on channel side is_channel uses stands here;
+      is_line = begin.line_there thread_at none branch known on channel side is_channel uses stands here;
+      on_core = begin.core_there thread_at none branch known on channel side is_channel uses stands here;
+      stands = begin.spot_there thread_at none branch known on channel side is_channel uses stands here;
+      late_is = begin.late_there thread_at none branch known on channel side is_channel uses stands here;
       moves = moves_by;
-      alone = begin.alone_there thread_at none branch known on channel side is_channel uses stands;
+      alone = begin.alone_there thread_at none branch known on channel side is_channel uses stands here;
     }
   where
     open moment use {setting as g, roles as who}
@@ -88,12 +88,12 @@ begins_there {moment} thread_at none branch known on channel side is_channel use
 
     moves_by : (s : Runner) (later : Phase) (left_late : List Parcel) → IsThen channel side s.transfer later left_late →
         Moves g who c t r s channel side later left_late
-    moves_by s later left_late (stays_in e) = begin.begins thread_at none branch known on channel side is_channel uses stands s later left_late e
+    moves_by s later left_late (stays_in e) = begin.begins thread_at none branch known on channel side is_channel uses stands here s later left_late e
     moves_by s later left_late (goes_out e f l) = record {
       old = λ transfer was. absurd (none-some transfer (sym none ∙ was));
       new = λ transfer its. absurd (none-some transfer (sym e ∙ its));
       over = λ out. (f, l);
-      mine = λ d u other. absurd (begin.nobody thread_at none branch known on channel side is_channel uses stands d u other);
+      mine = λ d u other. absurd (begin.nobody thread_at none branch known on channel side is_channel uses stands here d u other);
     }
 
 -- inside a piece

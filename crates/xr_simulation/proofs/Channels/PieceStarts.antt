@@ -67,7 +67,7 @@ module _ {moment : Moment none_rests} {thread_at : ThreadAt moment None} (branch
       (piece_uses piece h.rest h.on.channel h.on.is_channel)
 
   abbrev pub at_end : AtEnd thread_at h.on.channel h.on.side between []
-  at_end = begins_there thread_at none branch known on h.on.channel h.on.side is_channel uses stands
+  at_end = begins_there thread_at none branch known on h.on.channel h.on.side is_channel uses stands h.on.here
 
   -- both ends of the channel are on the core
   pub sides_within : (end_of_side (pair_of g.program h.on.channel) (other_side h.on.side)).core
@@ -75,5 +75,5 @@ module _ {moment : Moment none_rests} {thread_at : ThreadAt moment None} (branch
   sides_within = there (other_side h.on.side) ∙ sym (there h.on.side)
     where
       there : (s : Side) → (end_of_side (pair_of g.program h.on.channel) s).core ≡ thread_at.core
-      there first = sides_there thread_at none branch known on h.on.channel h.on.side is_channel uses stands first
-      there second = sides_there thread_at none branch known on h.on.channel h.on.side is_channel uses stands second
+      there first = sides_there thread_at none branch known on h.on.channel h.on.side is_channel uses stands h.on.here first
+      there second = sides_there thread_at none branch known on h.on.channel h.on.side is_channel uses stands h.on.here second

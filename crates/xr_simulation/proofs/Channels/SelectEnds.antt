@@ -74,13 +74,17 @@ module _ {moment : Moment none_rests} {hand : Option Acquired} (thread_at : Thre
   abbrev s : source.Setting
   s = step_of g.program g.stimulus x.state r.branch branch h.rest
 
+  branch_is : branch ≡ (works_at moment c t r hand runs_r).branch
+  branch_is = let works = works_at moment c t r hand runs_r in same_Some branch works.branch (sym h.has.runs.known ∙ works.known)
+
   sides_are : branch.sides ≡ r.sides
-  sides_are =
-      let works = works_at moment c t r hand runs_r in
-      ap (λ (b : Branch). b.sides) (same_Some branch works.branch (sym h.has.runs.known ∙ works.known)) ∙ works.sides
+  sides_are = ap (λ (b : Branch). b.sides) branch_is ∙ (works_at moment c t r hand runs_r).sides
+
+  core_is : branch.core ≡ r.core
+  core_is = ap (λ (b : Branch). b.core) branch_is ∙ (works_at moment c t r hand runs_r).core
 
   on_sides : ChoicesOnSides g r h.choices
-  on_sides = first_sided g r x.state st.lawful branch h.has.runs.known sides_are items h.has.runs.items_are h.fits
+  on_sides = first_sided g r x.state st.lawful branch h.has.runs.known sides_are core_is items h.has.runs.items_are h.fits
 
   -- a case on a channel
   module _ (n : ℕ) (choice : Choice) (listed : slice_get h.choices n ≡ Some choice) (d : ℕ) (on : choice.input.resource ≡ Chan d) where
@@ -101,14 +105,17 @@ module _ {moment : Moment none_rests} {hand : Option Acquired} (thread_at : Thre
     stands : side_of branch d ≡ Some side
     stands = ap (λ l. slice_index_or l d None) sides_are ∙ its_side.1
 
+    here : core_of g.program d side ≡ r.core
+    here = its_side.2
+
     abbrev line : ℕ
-    line = begins.line thread_at outside branch h.has.runs.known h.has.runs.running d side is_channel uses stands
+    line = begins.line thread_at outside branch h.has.runs.known h.has.runs.running d side is_channel uses stands here
 
     is_line : IsLine g.program line d
-    is_line = line_there thread_at outside branch h.has.runs.known h.has.runs.running d side is_channel uses stands
+    is_line = line_there thread_at outside branch h.has.runs.known h.has.runs.running d side is_channel uses stands here
 
     on_core : core_of g.program d side ≡ c
-    on_core = core_there thread_at outside branch h.has.runs.known h.has.runs.running d side is_channel uses stands
+    on_core = core_there thread_at outside branch h.has.runs.known h.has.runs.running d side is_channel uses stands here
 
     ready_is : end_ready a (end_of_side (pair_of g.program d) side).end
         ≡ has_arrived s d (side_of branch d)
@@ -116,7 +123,7 @@ module _ {moment : Moment none_rests} {hand : Option Acquired} (thread_at : Thre
         case_agrees g.image.chans is.lines.wired w.machine.cores w.machine.links (boxes_in g.program x.state.inboxes) st.wired.ghosts
         st.wired.over.wires line (pair_of g.program d) side (is_end thread_at d side line is_line on_core).channel a
         (is_end thread_at d side line is_line on_core).at_core
-        (spot_there thread_at outside branch h.has.runs.known h.has.runs.running d side is_channel uses stands) s d stands
+        (spot_there thread_at outside branch h.has.runs.known h.has.runs.running d side is_channel uses stands here) s d stands
         (line_box g.program line d is_line x.state.inboxes)
 
     end_agrees : end_ready a (end_on g r (slice_index_or r.sides d None) d) ≡ has_arrived s d (side_of branch d)

@@ -29,7 +29,7 @@ module _ {may_rest : (core thread : ℕ) → Bool} {moment : Moment may_rest} {h
     (outside : thread_at.runner.transfer ≡ None)
     (branch : Branch) (known : slice_get moment.told.state.branches thread_at.runner.branch ≡ Some branch) (on : branch.mode ≡ runs) (d : ℕ)
     (side : Side) (is_channel : IsChannel moment.setting thread_at.runner d) (uses : IsTrue (by_items (channel d) branch.items))
-    (stands : side_of branch d ≡ Some side) where
+    (stands : side_of branch d ≡ Some side) (here : core_of moment.setting.program d side ≡ thread_at.runner.core) where
   open moment use {setting as g, image as is, roles as who, watched as w, told as x, standing as st}
   open thread_at use {core as c, thread as t, runner as r, runs as runs_r}
 
@@ -37,21 +37,21 @@ module _ {may_rest : (core thread : ℕ) → Bool} {moment : Moment may_rest} {h
   awake h = subst IsWaiting on h
 
   -- its line
-  pub lines_there : AreSidesOn g.program d r.core × ((line : ℕ) × IsLine g.program line d)
+  pub lines_there : (line : ℕ) × IsLine g.program line d
   lines_there = is.lines.used r.core d is_channel.known is_channel.used
 
   abbrev pub line : ℕ
-  line = lines_there.1.0
+  line = lines_there.0
 
   pub line_there : IsLine g.program line d
-  line_there = lines_there.1.1
+  line_there = lines_there.1
 
   pub core_there : core_of g.program d side ≡ c
-  core_there = lines_there.0 side ∙ st.roles.core c t r hand runs_r
+  core_there = here ∙ st.roles.core c t r hand runs_r
 
   -- both its sides are on the core
   pub sides_there : AreSidesOn g.program d c
-  sides_there s = lines_there.0 s ∙ st.roles.core c t r hand runs_r
+  sides_there s = is.lines.near r.core d is_channel.known is_channel.used s ∙ st.roles.core c t r hand runs_r
 
   -- a thread that is inside a transfer there would run this very branch
   pub nobody : (e u : ℕ) → IsTransferring who e u d side → ⊥

@@ -21,7 +21,7 @@ use Rattle.xl_plan.proofs.TwoSides.{two_sides}
 use Rattle.xr_match.specs.Sides.{two_sided, two_sided_among, where_so}
 use Rattle.xr_simulation.specs.Images.{AreLines}
 use Rattle.xr_simulation.specs.Runners.{Setting}
-use Rattle.xr_simulation.specs.Wired.{AreSidesOn, IsLine}
+use Rattle.xr_simulation.specs.Wired.{IsLine}
 use Rattle.xr_simulation.proofs.Image.Sides.{known, sides_on}
 use Rattle.xr_channels.specs.Channels.{end_of_side}
 use Rattle.xr_channels.proofs.All.Wired.{valid_wired}
@@ -92,9 +92,8 @@ module _ (g : Setting) (checked : IsChecked g.program) (is : IsImage g.program g
   chans_are : g.image.chans ≡ map (pair_of g.program) (two_sided g.program)
   chans_are = is.channels ∙ pairs_are g.program (length g.program.channels) two_is_used
 
-  used_at : (core c : ℕ) → c < length g.program.channels → is_used_on g.program core c ≡ true → AreSidesOn g.program c core × ((line : ℕ) × IsLine g.program line c)
-  used_at core c lt used =
-      (sides_on g.program stay core c used, listed_at g.program (length g.program.channels) c lt (two_is_used c lt ∙ (known g.program stay core c used).some))
+  used_at : (core c : ℕ) → c < length g.program.channels → is_used_on g.program core c ≡ true → (line : ℕ) × IsLine g.program line c
+  used_at core c lt used = listed_at g.program (length g.program.channels) c lt (two_is_used c lt ∙ (known g.program core c used).some)
 
   pub lines_are : AreLines g
   lines_are = record {
@@ -103,5 +102,6 @@ module _ (g : Setting) (checked : IsChecked g.program) (is : IsImage g.program g
     line = λ line c e. ap (λ l. slice_get l line) chans_are ∙ slice_get-map (pair_of g.program) (two_sided g.program) line ∙ ap (option_map (pair_of g.program)) e;
     channel = λ line p e. of_channel g.program (two_sided g.program) line p (ap (λ l. slice_get l line) (sym chans_are) ∙ e);
     used = used_at;
+    near = λ core c lt used. sides_on g.program core c used stay;
     ends = λ line p side e. pair_there g.image.cores g.image.chans line p valid.pairs e side;
   }

@@ -1,4 +1,4 @@
--- The channel ends of a core, as its plan has them.
+-- The channel ends of a core, as its plan has them: those of the sides that are there.
 use Rattle.std.proofs.Common.{◌≡◌, ◌≢◌, ⊎_elim, ℕ, zero, suc, ◌<◌, ◌≤◌, true, List, [], ◌∷◌, ◌++◌, length, Some, nat_eq, slice_get, refl, sym, ap, ◌∙◌, arith}
 use Rattle.std.proofs.lemmas.Bool.{cases_lt}
 use Rattle.xc_kernel.specs.Plain as kernel
@@ -10,14 +10,14 @@ use Rattle.xc_meaning.specs.States.Channels.{Side, first, second}
 use Rattle.xl_expr.specs.declared.plan.ResAt.TheVariants.{Fixed}
 use Rattle.xl_expr.specs.Plans.{end_in}
 use Rattle.xl_image.specs.Images.{IsPlan}
-use Rattle.xl_image.specs.Roots.{StayOnCores}
-use Rattle.xl_plan.specs.Layout.{end_name, end_places, ends_before, ends_below, first_there, places_on, second_there, side_cores}
+use Rattle.xl_plan.specs.declared.channels.SideCores.{SideCores}
+use Rattle.xl_plan.specs.Layout.{core_in, core_of, end_name, end_places, ends_before, ends_below, first_there, places_on, second_there, side_cores}
 use Rattle.xl_plan.proofs.Ends.{ends_are_used, few_ends}
 use Rattle.xl_ends.specs.Ends.{end_of_side, place_of}
 use Rattle.xr_simulation.specs.Runners.{EndIsPlanned, IsChannel, Runner, Setting, end_place, home, plan}
 use Rattle.xr_simulation.specs.Sizes.{most_watches}
 use Rattle.xr_simulation.proofs.Image.Places.{order}
-use Rattle.xr_simulation.proofs.Image.Sides.{both, known, sides_on}
+use Rattle.xr_simulation.proofs.Image.Sides.{known}
 use Rattle.xr_simulation.proofs.Image.ResourceNames.{end_named}
 
 -- what is put behind a list stands there
@@ -84,7 +84,7 @@ module _ (K : kernel.Kernel) (core : ℕ) where
 one_there : (core its : ℕ) → its ≡ core → on_core core its 1 ≡ 1
 one_there core its e = ap (λ b. if_so b 1) (let z : nat_eq its core ≡ true = grind (arith, e) in z)
 
-module _ (g : Setting) (checked : IsChecked g.program) (stay : StayOnCores g.program) (r : Runner) (is_core : r.core < 4) (planned : IsPlan g.program r.core (plan g r))
+module _ (g : Setting) (checked : IsChecked g.program) (r : Runner) (is_core : r.core < 4) (planned : IsPlan g.program r.core (plan g r))
     (counted : (home g r).parts.ends ≡ ends_on g.program r.core) where
   abbrev all : ℕ
   all = ends_before g.program r.core (length g.program.channels)
@@ -92,31 +92,36 @@ module _ (g : Setting) (checked : IsChecked g.program) (stay : StayOnCores g.pro
   few : all ≤ 32
   few = few_ends g.program r.core checked (omega (arith, is_core))
 
-  -- A channel of the core's has both ends there.
+  -- where the ends of a channel begin
+  least : (c : ℕ) (side : Side) → ends_before g.program r.core c ≤ end_place g r c side
+  least c first = omega arith
+  least c second = omega arith
+
+  -- A side of a channel has its end on its core.
   module _ (c : ℕ) (is : IsChannel g r c) where
-    first_one : first_there r.core (side_cores c g.program.roots) ≡ 1
-    first_one =
-        ap (first_there r.core) (known g.program stay r.core c is.used).are
-        ∙ one_there r.core (known g.program stay r.core c is.used).cores.first (both g.program stay r.core c is.used).0
+    abbrev cores : SideCores
+    cores = (known g.program r.core c is.used).cores
 
-    second_one : second_there r.core (side_cores c g.program.roots) ≡ 1
-    second_one =
-        ap (second_there r.core) (known g.program stay r.core c is.used).are
-        ∙ one_there r.core (known g.program stay r.core c is.used).cores.second (both g.program stay r.core c is.used).1
+    are : side_cores c g.program.roots ≡ Some cores
+    are = (known g.program r.core c is.used).are
 
-    -- where its ends begin, and those of the channels behind it
-    least : (side : Side) → ends_before g.program r.core c ≤ end_place g r c side
-    least first = omega arith
-    least second = omega arith
+    first_one : core_of g.program c first ≡ r.core → first_there r.core (side_cores c g.program.roots) ≡ 1
+    first_one here =
+        ap (first_there r.core) are ∙ one_there r.core cores.first (ap (λ o. core_in o first) (sym are) ∙ here)
 
-    most : (side : Side) → end_place g r c side < ends_before g.program r.core (suc c)
-    most first = let a = first_one in omega (arith, a)
-    most second = let a = first_one in let b = second_one in omega (arith, a, b)
+    second_one : core_of g.program c second ≡ r.core → second_there r.core (side_cores c g.program.roots) ≡ 1
+    second_one here =
+        ap (second_there r.core) are ∙ one_there r.core cores.second (ap (λ o. core_in o second) (sym are) ∙ here)
 
-    inside : (side : Side) → end_place g r c side < all
-    inside side =
+    -- it is before those of the channels behind it
+    most : (side : Side) → core_of g.program c side ≡ r.core → end_place g r c side < ends_before g.program r.core (suc c)
+    most first here = let a = first_one here in omega (arith, a)
+    most second here = let a = second_one here in omega (arith, a)
+
+    inside : (side : Side) → core_of g.program c side ≡ r.core → end_place g r c side < all
+    inside side here =
         let behind = more g.program r.core c (length g.program.channels) is.known in
-        let below = most side in
+        let below = most side here in
         omega (arith, behind, below)
 
     places_are : slice_get (plan g r).channels c ≡ Some (places_on g.program r.core c)
@@ -130,39 +135,40 @@ module _ (g : Setting) (checked : IsChecked g.program) (stay : StayOnCores g.pro
     place_is first = refl
     place_is second = refl
 
-    -- The plan has the identifiers of both.
-    pub ends_planned : (side : Side) → EndIsPlanned g r c side
-    ends_planned side =
-        let lt = inside side in
+    -- The plan has its identifier.
+    pub ends_planned : (side : Side) → core_of g.program c side ≡ r.core → EndIsPlanned g r c side
+    ends_planned side here =
+        let lt = inside side here in
         let small = few in
         record {
           place = end_place g r c side;
           is = ap (λ o. end_of_side o (Some side)) places_are ∙ ap Some (place_is side);
           identifier = identified (end_place g r c side) lt;
           names = end_named r.core (end_place g r c side) (omega (arith, lt, small));
-          here = sides_on g.program stay r.core c is.used side;
           there =
               let as_many = ends_are_used g.program r.core checked in
               let there = counted in
               omega (arith, lt, as_many, there);
         }
 
-    pub few_ends_there : (side : Side) → end_place g r c side < most_watches
-    few_ends_there side = let lt = inside side in let small = few in omega (arith, lt, small)
+    pub few_ends_there : (side : Side) → core_of g.program c side ≡ r.core → end_place g r c side < most_watches
+    few_ends_there side here = let lt = inside side here in let small = few in omega (arith, lt, small)
 
   -- Of two channels the one behind has its ends behind the other's.
-  later_differ : (c d : ℕ) (side other : Side) → IsChannel g r c → IsChannel g r d → c < d → end_place g r c side ≢ end_place g r d other
-  later_differ c d side other is is' lt same =
-      let a = most c is side in
+  later_differ : (c d : ℕ) (side other : Side) → IsChannel g r c → core_of g.program c side ≡ r.core → c < d →
+      end_place g r c side ≢ end_place g r d other
+  later_differ c d side other is here lt same =
+      let a = most c is side here in
       let b = more g.program r.core c d lt in
-      let e = least d is' other in
+      let e = least d other in
       omega (arith, a, b, e, same)
 
-  pub ends_differ : (c d : ℕ) (side other : Side) → IsChannel g r c → IsChannel g r d → end_place g r c side ≡ end_place g r d other → c ≡ d
-  ends_differ c d side other is is' same =
+  pub ends_differ : (c d : ℕ) (side other : Side) → IsChannel g r c → core_of g.program c side ≡ r.core → IsChannel g r d →
+      core_of g.program d other ≡ r.core → end_place g r c side ≡ end_place g r d other → c ≡ d
+  ends_differ c d side other is here is' here' same =
       ⊎_elim (λ e. e)
       (λ ne. ⊎_elim
-      (λ lt. absurd (later_differ c d side other is is' lt same))
-      (λ lt. absurd (later_differ d c other side is' is lt (sym same)))
+      (λ lt. absurd (later_differ c d side other is here lt same))
+      (λ lt. absurd (later_differ d c other side is' here' lt (sym same)))
       (order c d ne))
       (same_or_not c d)

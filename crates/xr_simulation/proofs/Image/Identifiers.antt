@@ -10,7 +10,7 @@ use Rattle.xl_expr.specs.declared.plan.ResAt.{ResAt}
 use Rattle.xl_expr.specs.declared.plan.ResAt.TheVariants.{Fixed}
 use Rattle.xl_expr.specs.Identifiers.{IsIdentifier}
 use Rattle.xl_expr.specs.Plans.{end_in, resource_at}
-use Rattle.xl_plan.specs.Layout.{end_name, port_name, timer_name}
+use Rattle.xl_plan.specs.Layout.{core_of, end_name, port_name, timer_name}
 use Rattle.xl_ends.specs.Ends.{end_of_side}
 use Rattle.xr_simulation.specs.Runners.{Setting, Runner, IsChannel, IsLaidOut, IsPort, IsTimer, end_place, home, plan, port_place, relied, timer_place}
 use Rattle.xr_simulation.specs.Sizes.{Sizes}
@@ -73,9 +73,10 @@ module _ (g : Setting) (r : Runner) where
       let at = listed_at z.core.timers (timer_place g r t) (omega (arith, few, many)) in
       record { timer = at.0; there = at.1 }
 
-  pub end_named : IsLaidOut g r → (z : ThreadView) (c : ℕ) (side : Side) → IsChannel g r c → EndIsNamed c side z
-  end_named laid z c side used =
-      let planned = laid.ends c side used in
+  pub end_named : IsLaidOut g r → (z : ThreadView) (c : ℕ) (side : Side) → IsChannel g r c → core_of g.program c side ≡ r.core →
+      EndIsNamed c side z
+  end_named laid z c side used here =
+      let planned = laid.ends c side used here in
       record {
         end = planned.place;
         is_end = planned.is;

@@ -147,7 +147,7 @@ module _ (K : kernel.Kernel) (L : Image) (checked : IsChecked K) (is : IsImage K
     core_of : (c : ℕ) → c < 4 → 1 ≤ threads_on K c → IsCoreOf g c
     core_of c lt some =
         let root = some_root c K.roots some in
-        core_is g checked built.stay c lt (imaged_on c root.0 root.1 root.2 root.3)
+        core_is g checked c lt (imaged_on c root.0 root.1 root.2 root.3)
 
     pub is_image_of : IsImageOf g who
     is_image_of = record {

@@ -17,7 +17,6 @@ use Rattle.xl_expr.specs.declared.plan.VarPlan.{VarPlan}
 use Rattle.xl_expr.specs.Frames.{Frame, IsNear}
 use Rattle.xl_expr.specs.Plans.{var_in}
 use Rattle.xl_image.specs.Images.{IsPlan, decl_of}
-use Rattle.xl_image.specs.Roots.{StayOnCores}
 use Rattle.xl_image.proofs.GoodParts.{few_timers}
 use Rattle.xl_plan.specs.Layout.{first_temporary, temporary_of, word_of, ports_here, core_of_port, core_of_timer, identifier_if, named_by, port_name, timer_name}
 use Rattle.xl_plan.specs.Planned.{ports_on}
@@ -134,7 +133,7 @@ module _ (g : Setting) (checked : IsChecked g.program) (core : ℕ) (is_core : c
   timer_small t x is = let few = few_timer t x is in omega (arith, few)
 
 -- A runner on its core.
-module _ (g : Setting) (checked : IsChecked g.program) (stay : StayOnCores g.program) (r : Runner) (is_core : r.core < 4) (im : IsImaged g.program r.core (parts_in g.image.cores r.core) (g.plans r.core))
+module _ (g : Setting) (checked : IsChecked g.program) (r : Runner) (is_core : r.core < 4) (im : IsImaged g.program r.core (parts_in g.image.cores r.core) (g.plans r.core))
     (inside : r.thread < threads_on g.program r.core) (block : r.block ≡ outside)
     (stack : r.stack ≡ temporary_of g.program r.core r.thread) where
   not_temporary : (v n i : ℕ) (found : VarPlan) → IsNear (places g r.core) v n found → i < found.words → IsApart r.stack (0 + n + i)
@@ -180,23 +179,24 @@ module _ (g : Setting) (checked : IsChecked g.program) (stay : StayOnCores g.pro
     timer_names = λ t x is. timer_named r.core (timer_place g r t)
         (timer_small g checked r.core is_core im t x (record { mine = refl; known = is.known; core = is.core }));
     timers = λ t x is. timers_are g checked r.core is_core im t x (record { mine = refl; known = is.known; core = is.core });
-    ends = λ c side is. ends_planned g checked stay r is_core planned im.ends c is side;
+    ends = λ c side is here. ends_planned g checked r is_core planned im.ends c is side here;
     few_ports = λ p x is. few_place g checked r.core is_core im p x is.known;
     few_timers = λ t x is.
         few_timer g checked r.core is_core im t x (record { mine = refl; known = is.known; core = is.core });
-    few_ends = λ c side is. few_ends_there g checked stay r is_core planned im.ends c is side;
+    few_ends = λ c side is here. few_ends_there g checked r is_core planned im.ends c is side here;
     ports_differ = λ p q x y is is' same.
         numbers_differ core_of_port g.program.ports r.core p q x y is.known is'.known is.core is'.core same;
     timers_differ = λ t u x y is is' same.
         numbers_differ core_of_timer g.program.timers r.core t u x y is.known is'.known is.core is'.core same;
-    ends_differ = λ c d side other is is' same. ends_differ g checked stay r is_core planned im.ends c d side other is is' same;
+    ends_differ = λ c d side other is here is' here' same.
+        ends_differ g checked r is_core planned im.ends c d side other is here is' here' same;
   }
 
 -- What the simulation asks of a core.
-pub core_is : (g : Setting) (checked : IsChecked g.program) → StayOnCores g.program → (core : ℕ) (is_core : core < 4) → IsImaged g.program core (parts_in g.image.cores core) (g.plans core) → IsCoreOf g core
-core_is g checked stay core is_core im = record {
+pub core_is : (g : Setting) (checked : IsChecked g.program) → (core : ℕ) (is_core : core < 4) → IsImaged g.program core (parts_in g.image.cores core) (g.plans core) → IsCoreOf g core
+core_is g checked core is_core im = record {
   laid = λ r on inside block stack used.
-      laid_out g checked stay r (subst (λ c. c < 4) (sym on) is_core) (subst (λ c. IsImaged g.program c (parts_in g.image.cores c) (g.plans c)) (sym on) im)
+      laid_out g checked r (subst (λ c. c < 4) (sym on) is_core) (subst (λ c. IsImaged g.program c (parts_in g.image.cores c) (g.plans c)) (sym on) im)
       (subst (λ c. r.thread < threads_on g.program c) (sym on) inside) block
       (stack ∙ ap (λ c. temporary_of g.program c r.thread) (sym on)) used;
   room = room g checked core is_core im;

@@ -1,14 +1,15 @@
--- Where all roots that use a channel are on one core, both its sides are there.
+-- The cores of a channel's sides: the plan has those that the laws of runs have. Where all roots that use it are on one core, both are there.
 use Rattle.std.proofs.Common.{◌≡◌, ◌⊎◌, inl, inr, ⊎_elim, ℕ, zero, suc, Bool, true, false, List, [], ◌∷◌, Option, Some, None, slice_get, refl, sym, ap, subst, ◌∙◌, true≢false, arith}
 use Rattle.std.specs.Prelude.{◌&&◌, ◌||◌, cond, nat_eq}
 use Rattle.xc_kernel.specs.Plain as kernel
 use Rattle.xc_kernel.specs.Things.{channel, by_statements}
-use Rattle.xc_meaning.specs.States.Channels.{first, second}
+use Rattle.xc_meaning.specs.States.Channels.{Side, first, second}
 use Rattle.xc_meaning.proofs.Basics.{none_given, some_given}
+use Rattle.xc_invariants.specs.OnSides.{first_core, last_core, side_core}
 use Rattle.xl_image.specs.Images.{one_root_uses}
 use Rattle.xl_image.specs.Roots.{StayOnCores}
 use Rattle.xl_plan.specs.declared.channels.SideCores.{SideCores}
-use Rattle.xl_plan.specs.Layout.{core_in, is_used_by, is_used_on, second_or, side_cores}
+use Rattle.xl_plan.specs.Layout.{core_in, core_of, is_used_by, is_used_on, second_or, side_cores}
 use Rattle.xr_simulation.specs.Wired.{AreSidesOn}
 
 both_true : (a b : Bool) → (a && b) ≡ true → (a ≡ true) × (b ≡ true)
@@ -58,6 +59,42 @@ cores_known c [] i r e u = absurd (none_given e)
 cores_known c (q ∷ rs) zero r e u = cores_by c q rs (by_statements (channel c) q.body) refl (inl (ap (λ (x : kernel.Root). by_statements (channel c) x.body) (some_given e) ∙ u))
 cores_known c (q ∷ rs) (suc i) r e u = cores_by c q rs (by_statements (channel c) q.body) refl (inr (cores_known c rs i r e u))
 
+-- where the last user is known, the second side's core is that one's
+second_is : (c otherwise : ℕ) (rs : List kernel.Root) → last_core c otherwise rs ≡ second_or otherwise (side_cores c rs)
+second_is c otherwise [] = refl
+second_is c otherwise (r ∷ rs) = by (by_statements (channel c) r.body) (λ core. second_is c core rs)
+  where
+    by : (b : Bool) → ((core : ℕ) → last_core c core rs ≡ second_or core (side_cores c rs)) →
+        last_core c (cond b r.core otherwise) rs ≡ second_or otherwise (cond b (Some (cores_of c r rs)) (side_cores c rs))
+    by true behind = behind r.core
+    by false behind = behind otherwise
+
+abbrev first_or : (core : ℕ) → Option SideCores → ℕ
+first_or core None = core
+first_or core (Some cores) = cores.first
+
+first_is : (c otherwise : ℕ) (rs : List kernel.Root) → first_core c otherwise rs ≡ first_or otherwise (side_cores c rs)
+first_is c otherwise [] = refl
+first_is c otherwise (r ∷ rs) = by (by_statements (channel c) r.body) (first_is c otherwise rs)
+  where
+    by : (b : Bool) → first_core c otherwise rs ≡ first_or otherwise (side_cores c rs) →
+        cond b r.core (first_core c otherwise rs) ≡ first_or otherwise (cond b (Some (cores_of c r rs)) (side_cores c rs))
+    by true behind = refl
+    by false behind = behind
+
+-- A side's core is the same to the laws of runs and to the plan.
+pub cores_agree : (K : kernel.Kernel) (c : ℕ) (side : Side) → side_core K c side ≡ core_of K c side
+cores_agree K c first = first_is c 0 K.roots ∙ by (side_cores c K.roots)
+  where
+    by : (cores : Option SideCores) → first_or 0 cores ≡ core_in cores first
+    by None = refl
+    by (Some cores) = refl
+cores_agree K c second = second_is c 0 K.roots ∙ by (side_cores c K.roots)
+  where
+    by : (cores : Option SideCores) → second_or 0 cores ≡ core_in cores second
+    by None = refl
+    by (Some cores) = refl
+
 module _ (c core : ℕ) where
   -- each root that uses it is on the core
   abbrev UsersOn : List kernel.Root → Type 0
@@ -79,16 +116,18 @@ module _ (c core : ℕ) where
       by true e behind = let own = on 0 r refl e in (own, last_here r.core (side_cores c rs) own behind)
       by false e behind = behind
 
--- A channel that is used on a core has both sides there.
-module _ (K : kernel.Kernel) (stay : StayOnCores K) (core c : ℕ) (used : is_used_on K core c ≡ true) where
+-- Of a channel that is used on a core, the cores of the sides are known.
+module _ (K : kernel.Kernel) (core c : ℕ) (used : is_used_on K core c ≡ true) where
   pub known : HasCores c K.roots
   known = let u = user_on core c K.roots used in cores_known c K.roots u.0 u.1 u.2 u.4
 
-  pub both : CoresAre c core (Some known.cores)
-  both =
-      let u = user_on core c K.roots used in
-      subst (CoresAre c core) known.are (cores_here c core K.roots (λ i r e uses. stay c i u.0 r u.1 e u.2 uses u.4 ∙ u.3))
+  -- where both stay on one core, both are there
+  module _ (stay : StayOnCores K) where
+    both : CoresAre c core (Some known.cores)
+    both =
+        let u = user_on core c K.roots used in
+        subst (CoresAre c core) known.are (cores_here c core K.roots (λ i r e uses. stay c i u.0 r u.1 e u.2 uses u.4 ∙ u.3))
 
-  pub sides_on : AreSidesOn K c core
-  sides_on first = ap (λ o. core_in o first) known.are ∙ both.0
-  sides_on second = ap (λ o. core_in o second) known.are ∙ both.1
+    pub sides_on : AreSidesOn K c core
+    sides_on first = ap (λ o. core_in o first) known.are ∙ both.0
+    sides_on second = ap (λ o. core_in o second) known.are ∙ both.1

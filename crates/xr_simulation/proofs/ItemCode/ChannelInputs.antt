@@ -18,6 +18,7 @@ use Rattle.xl_expr.specs.Destinations.{WritesTo}
 use Rattle.xl_expr.proofs.Lists.{stand_back, stand_front}
 use Rattle.xl_expr.proofs.Runs.{r0_alone}
 use Rattle.xl_ends.specs.Ends.{end_at}
+use Rattle.xl_plan.specs.Layout.{core_of}
 use Rattle.xl_statements.specs.Pieces.{ByEndAt, Exit}
 use Rattle.xr_simulation.specs.Fits.{Fits, ItemsFit}
 use Rattle.xr_simulation.specs.Runners.{Setting, Runner, IsChannel, IsLaidOut, code, end_place, home, plan, relied}
@@ -54,7 +55,7 @@ module _ (g : Setting) (r : Runner) (rest : List Item) (exits : List Exit) (pc p
             target writes regs.r0 regs bases refl,
       )
 
-  module _ (i : kernel.Input) (item_fits : Fits g r (kernel.input i)) (rest_fits : ItemsFit g r rest) (c : ℕ) (to_channel : i.resource ≡ Chan c) (side : Side) (stands_in : slice_index_or r.sides c None ≡ Some side) (writes : WritesTo (plan g r).vars i.target (pc + length transfer) write) where
+  module _ (i : kernel.Input) (item_fits : Fits g r (kernel.input i)) (rest_fits : ItemsFit g r rest) (c : ℕ) (to_channel : i.resource ≡ Chan c) (side : Side) (stands_in : slice_index_or r.sides c None ≡ Some side) (on_core : core_of g.program c side ≡ r.core) (writes : WritesTo (plan g r).vars i.target (pc + length transfer) write) where
     -- at the first step of the protocol
     takes_there : (z y q : ThreadView) (regs : Regs) → HasBases g r regs → Rely g r y q → q.hand ≡ None →
         Has g r (does (kernel.input i) ∷ rest) q →
@@ -62,7 +63,7 @@ module _ (g : Setting) (r : Runner) (rest : List Item) (exits : List Exit) (pc p
         (input_acts R0 true) (EndsAt (pc + length transfer)) y.core → Communicates g r (takes_in i) j q
     takes_there z y q regs bases kept no_hand has at = record {
       rest = rest;
-      on = record { channel = c; is_channel = to_channel; side = side; stands_in = stands_in };
+      on = record { channel = c; is_channel = to_channel; side = side; stands_in = stands_in; here = on_core };
       no_hand = no_hand;
       pc = at.index;
       regs = at.regs;
@@ -90,10 +91,10 @@ module _ (g : Setting) (r : Runner) (rest : List Item) (exits : List Exit) (pc p
 pub take_leads : (g : Setting) (r : Runner) (i : kernel.Input) (c : ℕ) → i.resource ≡ Chan c → IsChannel g r c →
     (rest : List Item) (exits : List Exit) (pc pc' j : ℕ) (z : ThreadView) (regs : Regs) →
     IsLaidOut g r → ByEndAt (code g r) (plan g r) (λ end. Receives (plan g r) end i.target true i.pos) (end_at (plan g r).channels r.sides c) pc pc' → Fits g r (kernel.input i) →
-    (side : Side) × (slice_index_or r.sides c None ≡ Some side) → ItemsFrom g r rest exits pc' j → ItemsFit g r rest →
+    IsOnSide g r (Chan c) → ItemsFrom g r rest exits pc' j → ItemsFit g r rest →
     Has g r (does (kernel.input i) ∷ rest) z → IsAt g r z pc regs → HasBases g r regs → z.hand ≡ None → Leads g r (cost g r) j z
-take_leads g r i c to_channel used rest exits pc pc' j z regs laid piece fits (side, stands_in) behind rest_fits has here bases no_hand =
-    let named = end_named g r laid z c side used in
+take_leads g r i c to_channel used rest exits pc pc' j z regs laid piece fits (side, stands_in, on_core) behind rest_fits has here bases no_hand =
+    let named = end_named g r laid z c side used on_core in
     let piece' = on_end g r c side z named stands_in (λ end. Receives (plan g r) end i.target true i.pos) pc pc' piece in
     let parts = piece'.so in
     let stand : StandAt (code g r) pc (parts.transfer ++ parts.write) = subst (StandAt (code g r) pc) parts.is piece'.stand in
@@ -106,6 +107,6 @@ take_leads g r i c to_channel used rest exits pc pc' j z regs laid piece fits (s
     (λ y h q k.
     let since = since_kept g r (IsApart r.stack) any_part h.1 k in
     turn.communicates (takes_in i) (takes_there g r rest exits pc pc' j parts.transfer parts.write end
-    (stand_back (code g r) pc parts.transfer parts.write stand) behind i fits rest_fits c to_channel side stands_in parts.writes
+    (stand_back (code g r) pc parts.transfer parts.write stand) behind i fits rest_fits c to_channel side stands_in on_core parts.writes
     z y q regs bases k (since.hand ∙ no_hand) (has_since g r laid (does (kernel.input i) ∷ rest) z q since (since.room has.holds.room) has) h.0))
     (arrives g r (IsApart r.stack) (apart_of_changes g r) outcome 3 z (at_runs g r z pc regs here) way))

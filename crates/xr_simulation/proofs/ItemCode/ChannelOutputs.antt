@@ -20,12 +20,13 @@ use Rattle.xl_chan.specs.Protocols.{output_acts}
 use Rattle.xl_chan.specs.Transfers.{AtProtocol, EndsAt, OutputReaches, SendsValue}
 use Rattle.xl_expr.specs.Measures.{nodes}
 use Rattle.xl_ends.specs.Ends.{end_at}
+use Rattle.xl_plan.specs.Layout.{core_of}
 use Rattle.xl_statements.specs.Pieces.{ByEndAt, Exit}
 use Rattle.xr_simulation.specs.Fits.{Fits, ItemsFit, OutputFits}
 use Rattle.xr_simulation.specs.Runners.{Setting, Runner, IsChannel, IsLaidOut, code, end_place, home, plan, relied}
 use Rattle.xr_simulation.specs.ThreadViews.{ThreadView, Rely, running}
 use Rattle.xr_simulation.specs.NextStep as turn
-use Rattle.xr_simulation.specs.NextStep.{Communicates, Has, HasBases, IsAt, IsBehind, ItemsFrom, Leads, TakesSteps, NextStep, StableNextStep, cost, puts_out}
+use Rattle.xr_simulation.specs.NextStep.{Communicates, Has, HasBases, IsAt, IsBehind, IsOnSide, ItemsFrom, Leads, TakesSteps, NextStep, StableNextStep, cost, puts_out}
 use Rattle.xr_simulation.proofs.RelyGuarantee.Arrival.{Since, any_part, apart_of_changes, arrives, at_runs, core_kept, since_kept}
 use Rattle.xr_simulation.proofs.Image.Bases.{bases_worked}
 use Rattle.xr_simulation.proofs.ItemCode.Evaluations.{eval_still, nodes_are, value_errs}
@@ -35,7 +36,7 @@ use Rattle.xr_simulation.proofs.ItemCode.OnEnds.{end_stands, on_end}
 use Rattle.xr_simulation.proofs.Channels.Protocols.{all_from, behind_of_items}
 use Rattle.xr_simulation.proofs.RelyGuarantee.ThreadViews.{leads_as, leads_more}
 
-module _ (g : Setting) (r : Runner) (laid : IsLaidOut g r) (o : kernel.Output) (fits : OutputFits g r o) (c : ℕ) (to_channel : o.resource ≡ Chan c) (side : Side) (stands_in : slice_index_or r.sides c None ≡ Some side) (rest : List Item) (exits : List Exit) (pc pc' j : ℕ) (behind : ItemsFrom g r rest exits pc' j) (item_fits : Fits g r (kernel.output o)) (rest_fits : ItemsFit g r rest) where
+module _ (g : Setting) (r : Runner) (laid : IsLaidOut g r) (o : kernel.Output) (fits : OutputFits g r o) (c : ℕ) (to_channel : o.resource ≡ Chan c) (side : Side) (stands_in : slice_index_or r.sides c None ≡ Some side) (on_core : core_of g.program c side ≡ r.core) (rest : List Item) (exits : List Exit) (pc pc' j : ℕ) (behind : ItemsFrom g r rest exits pc' j) (item_fits : Fits g r (kernel.output o)) (rest_fits : ItemsFit g r rest) where
   abbrev item : Item
   item = does (kernel.output o)
 
@@ -54,7 +55,7 @@ module _ (g : Setting) (r : Runner) (laid : IsLaidOut g r) (o : kernel.Output) (
       (output_acts v true) (EndsAt pc') y.core → Communicates g r (puts_out o v) j q
   offers_there z y q regs v bases kept no_hand has is at = record {
     rest = rest;
-    on = record { channel = c; is_channel = to_channel; side = side; stands_in = stands_in };
+    on = record { channel = c; is_channel = to_channel; side = side; stands_in = stands_in; here = on_core };
     ready = is;
     no_hand = no_hand;
     pc = at.index;
@@ -108,10 +109,10 @@ module _ (g : Setting) (r : Runner) (laid : IsLaidOut g r) (o : kernel.Output) (
 pub offer_leads : (g : Setting) (r : Runner) (o : kernel.Output) (c : ℕ) → o.resource ≡ Chan c → IsChannel g r c →
     (rest : List Item) (exits : List Exit) (pc pc' j : ℕ) (z : ThreadView) (regs : Regs) →
     IsLaidOut g r → ByEndAt (code g r) (plan g r) (λ end. SendsValue (plan g r) end o.value true o.pos) (end_at (plan g r).channels r.sides c) pc pc' → Fits g r (kernel.output o) →
-    (side : Side) × (slice_index_or r.sides c None ≡ Some side) → ItemsFrom g r rest exits pc' j → ItemsFit g r rest →
+    IsOnSide g r (Chan c) → ItemsFrom g r rest exits pc' j → ItemsFit g r rest →
     Has g r (does (kernel.output o) ∷ rest) z → IsAt g r z pc regs → HasBases g r regs → z.hand ≡ None → Leads g r (cost g r) j z
-offer_leads g r o c to_channel used rest exits pc pc' j z regs laid piece (fits, counted) (side, stands_in) behind rest_fits has here bases no_hand =
-    let named = end_named g r laid z c side used in
+offer_leads g r o c to_channel used rest exits pc pc' j z regs laid piece (fits, counted) (side, stands_in, on_core) behind rest_fits has here bases no_hand =
+    let named = end_named g r laid z c side used on_core in
     let piece' = on_end g r c side z named stands_in (λ end. SendsValue (plan g r) end o.value true o.pos) pc pc' piece in
     let at_end = pc + length piece'.lines in
     let v = eval z.world.store o.value in
@@ -124,5 +125,5 @@ offer_leads g r o c to_channel used rest exits pc pc' j z regs laid piece (fits,
     let le : most ≤ cost g r = let a = nodes_are o.value in omega (arith, counted, a) in
     leads_more g r (StableNextStep g r j) most (cost g r) z le
     (leads_as g r (λ y. outcome y.core × Since g r (IsApart r.stack) any_part z y) (StableNextStep g r j) most z
-    (λ y h. output_turns g r laid o fits c to_channel side stands_in rest exits pc at_end j behind' (fits, counted) rest_fits z regs bases no_hand has v refl y h.0 h.1)
+    (λ y h. output_turns g r laid o fits c to_channel side stands_in on_core rest exits pc at_end j behind' (fits, counted) rest_fits z regs bases no_hand has v refl y h.0 h.1)
     (arrives g r (IsApart r.stack) (apart_of_changes g r) outcome most z (at_runs g r z pc regs here) way))

@@ -90,8 +90,8 @@ module _ (g : Setting) (r : Runner) (exits : List Exit) (otherwise : kernel.Defa
             (h.entered, exits, jumps, few, subst (λ q. EntersAt g r q i index h.entered) (sym is) lines, items)
         by_resource (Timer t) is lines from side =
             (h.entered, exits, jumps, few, subst (λ q. EntersAt g r q i index h.entered) (sym is) lines, items)
-        by_resource (Chan c) is lines from (side, stands_in) =
-            let its = laid.ends c side from in
+        by_resource (Chan c) is lines from (side, stands_in, here) =
+            let its = laid.ends c side from here in
             let end_is : end_at (plan g r).channels r.sides c ≡ Some its.place =
             ap (end_of_side (slice_get (plan g r).channels c)) stands_in ∙ its.is in
             let input : InputAt (code g r) (plan g r) r.sides i (Chan c) index h.entered =

@@ -40,7 +40,7 @@ use Rattle.xr_simulation.proofs.Image.Bases.{bases_armed}
 use Rattle.xr_simulation.proofs.ItemCode.Evaluations.{item_acts, runs_with, with_items}
 use Rattle.xr_simulation.proofs.ItemCode.ResourceTurns.{AtTransfer, both_err, has_still, setting}
 use Rattle.xr_simulation.proofs.ItemCode.SelectCases.{CaseCode, case_at, default_at, default_stands, target_at}
-use Rattle.xr_simulation.proofs.ItemCode.SelectResources.{CaseIsGood, cases_apart, cases_cost, cases_laid, cases_stand, enabled_still, end_here, good_at, named_own, named_there, named_watched, places}
+use Rattle.xr_simulation.proofs.ItemCode.SelectResources.{CaseIsGood, cases_apart, cases_cost, cases_laid, cases_stand, enabled_still, good_at, named_own, named_there, named_watched, places}
 use Rattle.xr_simulation.proofs.ItemCode.Selects.{begun_fits}
 use Rattle.xr_simulation.proofs.Relation.Sizes.{same_sizes}
 use Rattle.xr_simulation.proofs.RelyGuarantee.Arrival.{Since, apart_from, apart_of_changes, arrives_relied, at_runs, parts_kept, since_kept}
@@ -141,7 +141,7 @@ module _ (g : Setting) (r : Runner) (cs : kernel.Cases) (otherwise : kernel.Defa
         enabled = w.armed.enabled;
         set = λ n c listed. set_as g r q.core c.when c.input.resource (w.armed.set n c listed);
       };
-      ends = λ n c listed. let its = good n c listed in end_here g r laid c.input.resource its.0.1.0.from its.1;
+      ends = λ n c listed. (good n c listed).1;
       at_cases = stands_there;
       at_default =
           default_stands g r exits otherwise pc' rest j behind piece.default_target (w.index + 1 + 1)

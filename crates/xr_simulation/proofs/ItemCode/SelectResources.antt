@@ -31,7 +31,7 @@ use Rattle.xl_select.specs.OpeningCode.{cases_parts, resource_name}
 use Rattle.xl_statements.specs.CaseEnds.{case_end, case_ends, end_or_first}
 use Rattle.xr_events.specs.Armed.{res_of}
 use Rattle.xr_simulation.specs.Fits.{AllFit, AsksRightly, CasesFit, CountedInputFits, TakesInAt, UsesSome}
-use Rattle.xr_simulation.specs.NextStep.{CasesOnSides, HasBases, HasEndHere, HoldsStore, IsOnSide, PortsStand, end_on, resources_here}
+use Rattle.xr_simulation.specs.NextStep.{CasesOnSides, HasBases, HoldsStore, IsOnSide, PortsStand, end_on, resources_here}
 use Rattle.xr_simulation.specs.Runners.{IsLaidOut, IsMine, IsPort, Runner, Setting, end_place, home, plan, port_place, relied, timer_place}
 use Rattle.xr_simulation.specs.Sizes.{Sizes, sizes_in, sizes_of}
 use Rattle.xr_simulation.specs.ThreadViews.{ThreadView}
@@ -78,20 +78,14 @@ module _ (g : Setting) (r : Runner) where
         (guard_still guard h.0.0)
 
   module _ (laid : IsLaidOut g r) where
-    -- the end of a channel's side in which it stands is on its core
-    pub end_here : (res : KRes) → TakesInAt g r res → IsOnSide g r res → HasEndHere g r res
-    end_here (Port p) from side = tt
-    end_here (Timer t) from side = tt
-    end_here (Chan c) from (side, stands_in) = (side, stands_in, (laid.ends c side from).here)
-
     -- Different resources stand at different places.
     apart_by : (q s : KRes) → TakesInAt g r q → IsOnSide g r q → TakesInAt g r s → IsOnSide g r s → places q ≡ places s → q ≡ s
     apart_by (Port p) (Port q) from side from' side' e =
         ap Port (laid.ports_differ p q from.listed from'.listed from.is from'.is (ap res_number e))
     apart_by (Timer t) (Timer u) from side from' side' e =
         ap Timer (laid.timers_differ t u from.listed from'.listed from.is from'.is (ap res_number e))
-    apart_by (Chan c) (Chan d) from (side, stands_in) from' (side', stands_in') e =
-        ap Chan (laid.ends_differ c d side side' from from'
+    apart_by (Chan c) (Chan d) from (side, stands_in, here) from' (side', stands_in', here') e =
+        ap Chan (laid.ends_differ c d side side' from here from' here'
         (sym (ap (λ o. end_on g r o c) stands_in) ∙ ap res_number e ∙ ap (λ o. end_on g r o d) stands_in'))
     apart_by (Port p) (Timer t) from side from' side' e = absurd (let z : ⊥ = cc in z)
     apart_by (Port p) (Chan c) from side from' side' e = absurd (let z : ⊥ = cc in z)
@@ -110,8 +104,8 @@ module _ (g : Setting) (r : Runner) where
           let few = laid.timers t from.listed from.is in
           let many = ap (λ (s : Sizes). s.timers) sized in
           listed_at core.timers (timer_place g r t) (omega (arith, few, many))
-      there_is (Chan c) from (side, stands_in) =
-          let few = (laid.ends c side from).there in
+      there_is (Chan c) from (side, stands_in, here) =
+          let few = (laid.ends c side from here).there in
           let many = ap (λ (s : Sizes). s.ends) sized in
           subst (λ n. IsThere core (ResEnd n)) (sym (ap (λ o. end_on g r o c) stands_in)) (listed_at core.ends (end_place g r c side) (omega (arith, few, many)))
 
@@ -125,8 +119,8 @@ module _ (g : Setting) (r : Runner) where
           let few = laid.few_timers t from.listed from.is in
           let many = ap (λ (s : Sizes). s.timer_watches) sized in
           listed_at core.events.timers (timer_place g r t) (omega (arith, few, many))
-      watched_is (Chan c) from (side, stands_in) =
-          let few = laid.few_ends c side from in
+      watched_is (Chan c) from (side, stands_in, here) =
+          let few = laid.few_ends c side from here in
           let many = ap (λ (s : Sizes). s.end_watches) sized in
           subst (λ n. (watch : Watch) × (watch_of core.events (ResEnd n) ≡ Some watch)) (sym (ap (λ o. end_on g r o c) stands_in))
           (listed_at core.events.ends (end_place g r c side) (omega (arith, few, many)))
@@ -161,8 +155,8 @@ module _ (g : Setting) (r : Runner) where
             its.names,
             tt,
           )
-      named_so (Chan c) from (side, stands_in) =
-          let its = end_named g r laid z c side from in
+      named_so (Chan c) from (side, stands_in, here) =
+          let its = end_named g r laid z c side from here in
           let end_is : case_end (plan g r).channels r.sides (Chan c) ≡ its.end =
           ap end_or_first (ap (end_of_side (slice_get (plan g r).channels c)) stands_in ∙ its.is_end) in
           let name = end_name r.core (end_on g r (Some side) c) in (
@@ -230,7 +224,7 @@ module _ (g : Setting) (r : Runner) where
       pub named_own : (res : Res) → IsOfCases places cs res → IsMine g r res
       named_own res (q, by_q, is) =
           let a = named_good q by_q in
-          subst (IsMine g r) (sym is) (resource_own g r q a.0 (end_here q a.0 a.1))
+          subst (IsMine g r) (sym is) (resource_own g r q a.0 a.1)
 
       -- and there
       module _ (core : CoreState) (sized : sizes_of core ≡ sizes_in (home g r).parts)

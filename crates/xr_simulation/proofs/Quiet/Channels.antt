@@ -185,12 +185,13 @@ module _ (moment : Moment none_rests)
 
     -- where the next item uses the channel, and the thread is inside no transfer
     begins_on : r.transfer ≡ None → (branch : Branch) (items : List Item) → Runs x.state r.branch branch items → (channel : ℕ) (side : Side) → IsChannel g r channel →
-        IsTrue (by_items (the_channel channel) items) → slice_index_or r.sides channel None ≡ Some side → BeginsOn channel side
-    begins_on none branch items on channel side used uses stands_in = record {
-      line = begins.line thread_at none branch on.known on.running channel side used its_use stands;
-      is_line = line_there thread_at none branch on.known on.running channel side used its_use stands;
-      on_core = core_there thread_at none branch on.known on.running channel side used its_use stands;
-      spot_is = spot_there thread_at none branch on.known on.running channel side used its_use stands;
+        IsTrue (by_items (the_channel channel) items) → slice_index_or r.sides channel None ≡ Some side →
+        core_of g.program channel side ≡ r.core → BeginsOn channel side
+    begins_on none branch items on channel side used uses stands_in here = record {
+      line = begins.line thread_at none branch on.known on.running channel side used its_use stands here;
+      is_line = line_there thread_at none branch on.known on.running channel side used its_use stands here;
+      on_core = core_there thread_at none branch on.known on.running channel side used its_use stands here;
+      spot_is = spot_there thread_at none branch on.known on.running channel side used its_use stands here;
     }
       where
         stands : side_of branch channel ≡ Some side
@@ -206,7 +207,7 @@ module _ (moment : Moment none_rests)
         let side = h.on.side in
         let used = piece_channel g r (puts_out o v) h.rest channel h.on.is_channel h.fits in
         let at = begins_on none h.has.branch (does (kernel.output o) ∷ h.rest) h.has.runs channel side used
-        (piece_uses (puts_out o v) h.rest channel h.on.is_channel) h.on.stands_in in
+        (piece_uses (puts_out o v) h.rest channel h.on.is_channel) h.on.stands_in h.on.here in
         four_sent channel side at.line at.is_line at.on_core at.spot_is
         (sends_wait moment quiet thread_at channel side at.line at.is_line at.on_core o.pos h.pc h.regs h.here (word_tokens v) h.steps.0)
 
@@ -218,7 +219,7 @@ module _ (moment : Moment none_rests)
         let runs = h.has.runs in
         let used = piece_channel g r (takes_in i) h.rest channel h.on.is_channel h.fits in
         let at = begins_on none h.has.branch (does (kernel.input i) ∷ h.rest) runs channel side used
-        (piece_uses (takes_in i) h.rest channel h.on.is_channel) h.on.stands_in in
+        (piece_uses (takes_in i) h.rest channel h.on.is_channel) h.on.stands_in h.on.here in
         let slow = word_waits moment quiet thread_at channel side at.line at.is_line at.on_core i.pos h.pc h.regs h.here R0 h.steps.0 in
         let nothing = its_inbox channel side at.line at.is_line at.on_core (no_word channel side at.line at.is_line at.on_core at.spot_is slow.0 slow.1) in
         input_cannot g r x.state h.has.branch (does (kernel.input i)) h.rest runs channel side

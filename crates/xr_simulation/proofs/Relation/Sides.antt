@@ -1,4 +1,4 @@
--- A branch whose next item is a transfer over a channel stands in a side of it.
+-- A branch whose next item is a transfer over a channel stands in a side of it, whose end is on the branch's core.
 use Rattle.std.proofs.Common.{◌≡◌, ◌⊎◌, ⊎_elim, ◌<◌, ℕ, Bool, true, false, List, [], ◌∷◌, length, Option, Some, None, IsSome, IsTrue, refl, sym, ap, ◌∙◌, subst, inl, inr, eq-eqb}
 use Rattle.std.specs.Prelude.{slice_get, slice_index_or}
 use Rattle.xc_kernel.specs.declared.statement.KRes.{KRes}
@@ -16,6 +16,7 @@ use Rattle.xc_meaning.specs.States.Worlds.{World}
 use Rattle.xr_simulation.specs.Fits.{AllFit, CasesFit, CountedInputFits, Fits, ItemsFit, PutsOutAt, TakesInAt}
 use Rattle.xr_simulation.specs.Runners.{Setting, Runner}
 use Rattle.xr_simulation.specs.NextStep.{CasesOnSides, ChoicesOnSides, IsOnSide, StandsInSides}
+use Rattle.xr_simulation.proofs.Image.Sides.{cores_agree}
 
 -- a truth value is one of the two
 both_ways : (b : Bool) → b ≡ true → b ≡ false → ⊥
@@ -33,12 +34,20 @@ module _ (g : Setting) (r : Runner) where
   FirstIsSided (chooses choices otherwise ∷ rest) = ChoicesOnSides g r choices
   FirstIsSided items = Unit {0}
 
-  module _ (x : World) (lawful : Lawful g.program x) (branch : Branch) (known : slice_get x.branches r.branch ≡ Some branch) (sides : branch.sides ≡ r.sides) where
-    -- a side of a channel on which the next item is
-    on_channel : (item : Item) (rest : List Item) → branch.items ≡ item ∷ rest → (c : ℕ) → c < length g.program.channels → IsTrue (is_on c item) → (s : Side) × (slice_index_or r.sides c None ≡ Some s)
+  module _ (x : World) (lawful : Lawful g.program x) (branch : Branch) (known : slice_get x.branches r.branch ≡ Some branch) (sides : branch.sides ≡ r.sides) (core : branch.core ≡ r.core) where
+    -- the side of a channel in which the branch stands has its end on the runner's core
+    on_side : (c : ℕ) → c < length g.program.channels → (s : Side) → side_of branch c ≡ Some s → IsOnSide g r (Chan c)
+    on_side c lt s is = (
+      s,
+      ap (λ l. slice_index_or l c None) (sym sides) ∙ is,
+      sym (cores_agree g.program c s) ∙ ((lawful.on_sides c lt).each r.branch branch known).stands s is ∙ core,
+    )
+
+    -- that of a channel on which the next item is
+    on_channel : (item : Item) (rest : List Item) → branch.items ≡ item ∷ rest → (c : ℕ) → c < length g.program.channels → IsTrue (is_on c item) → IsOnSide g r (Chan c)
     on_channel item rest items c lt on =
         let s = side_known (side_of branch c) (each_has_side g.program x lawful r.branch branch item rest known items c lt on) in
-        (s.0, ap (λ l. slice_index_or l c None) (sym sides) ∙ s.1)
+        on_side c lt s.0 s.1
 
     -- that of an output
     output_sided : (o : kernel.Output) (rest : List Item) → branch.items ≡ does (kernel.output o) ∷ rest → (res : KRes) → o.resource ≡ res → PutsOutAt g r res → IsOnSide g r res
@@ -54,17 +63,16 @@ module _ (g : Setting) (r : Runner) where
 
     -- of a channel of the kernel's the branch has a side, or its next item uses the channel in `par`s alone
     abbrev IsSidedOr : (Unsided : ℕ → Type 0) → Type 0
-    IsSidedOr Unsided = (c : ℕ) → c < length g.program.channels → ((s : Side) × (slice_index_or r.sides c None ≡ Some s)) ⊎ Unsided c
+    IsSidedOr Unsided = (c : ℕ) → c < length g.program.channels → IsOnSide g r (Chan c) ⊎ Unsided c
 
     sided_or : (item : Item) (rest : List Item) → branch.items ≡ item ∷ rest → IsSidedOr (λ c. UnsidedItem c item)
     sided_or item rest items c lt =
         let all = subst (AllItems (SidedAt c r.branch branch.sides)) items ((lawful.sided c lt).all r.branch branch known) in
         by (slice_index_or branch.sides c None) refl all.0
       where
-        by : (side : Option Side) → slice_index_or branch.sides c None ≡ side → ItemBySide c side item →
-            ((s : Side) × (slice_index_or r.sides c None ≡ Some s)) ⊎ UnsidedItem c item
+        by : (side : Option Side) → slice_index_or branch.sides c None ≡ side → ItemBySide c side item → IsOnSide g r (Chan c) ⊎ UnsidedItem c item
         by None e h = inr h
-        by (Some s) e h = inl (s, ap (λ l. slice_index_or l c None) (sym sides) ∙ e)
+        by (Some s) e h = inl (on_side c lt s e)
 
     -- the input of a case
     case_sided : (i : kernel.Input) → IsSidedOr (λ c. UnsidedInput c i) → (res : KRes) → i.resource ≡ res → TakesInAt g r res → IsOnSide g r res

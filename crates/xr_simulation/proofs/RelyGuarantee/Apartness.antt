@@ -204,8 +204,8 @@ module _ (g : Setting) (who : Roles) (x : World) (lawful : Lawful g.program x) (
 
     ends_apart : (p q : ℕ) (side side' : Side) → IsEnd g r p side → IsEnd g s q side' → end_place g r p side ≢ end_place g s q side'
     ends_apart p q side side' is is' same =
-        let line = (lines.used r.core p is.channel.known is.channel.used).1 in
-        let line' = (lines.used s.core q is'.channel.known is'.channel.used).1 in
+        let line = lines.used r.core p is.channel.known is.channel.used in
+        let line' = lines.used s.core q is'.channel.known is'.channel.used in
         let there : end_of_side (pair_of g.program p) side ≡ end_of_side (pair_of g.program q) side' =
         place_is g.program p side r.core is.here
         ∙ ap (λ n. record { core = r.core; end = n }) same

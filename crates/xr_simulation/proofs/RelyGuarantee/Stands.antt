@@ -22,7 +22,7 @@ use Rattle.xr_events.proofs.Lasting.{armed_stays, latch_stays, vector_stays}
 use Rattle.xr_simulation.specs.Fits.{AllFit, CountedInputFits, ItemsFit, TakesInAt}
 use Rattle.xr_simulation.specs.Runners.{Footprint, IsMine, IsPort, IsTimer, Setting, Runner, port_place, timer_place}
 use Rattle.xr_simulation.specs.Transfers.{Transfer}
-use Rattle.xr_simulation.specs.NextStep.{CaseAt, HasEndHere, ItemsFrom, SameParts, StandsAtSelect, IsPlacedAt, end_on, is_latched_by, is_port_number, is_timer_number, is_watching, resources_here, stands_on_part}
+use Rattle.xr_simulation.specs.NextStep.{CaseAt, IsOnSide, ItemsFrom, SameParts, StandsAtSelect, IsPlacedAt, end_on, is_latched_by, is_port_number, is_timer_number, is_watching, resources_here, stands_on_part}
 
 module _ (g : Setting) (r : Runner) where
   -- a port that the runner has is its own
@@ -118,7 +118,7 @@ module _ (g : Setting) (r : Runner) where
   stands_kept (ends ∷ rest) j pc regs a b off same h = h
 
   -- The resource of a case is the runner's own.
-  pub resource_own : (res : KRes) → TakesInAt g r res → HasEndHere g r res → IsMine g r (res_of (resources_here g r) res)
+  pub resource_own : (res : KRes) → TakesInAt g r res → IsOnSide g r res → IsMine g r (res_of (resources_here g r) res)
   resource_own (Port p) from end = record { port = p; listed = from.listed; is = from.is; place = refl }
   resource_own (Timer t) from end = record { timer = t; listed = from.listed; is = from.is; place = refl }
   resource_own (Chan c) from (side, stands_in, here) = record {

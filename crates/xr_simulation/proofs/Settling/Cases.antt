@@ -125,7 +125,7 @@ module _ {may_rest : (core thread : ℕ) → Bool} {moment : Moment may_rest} {t
     on_its_way : IsOnItsWay g r stand.left (record { core = a; world = x.state; hand = hand })
     on_its_way =
         let lt : r.core < 4 = subst (λ k. k < 4) (sym (st.roles.core c t r None runs_r)) (st.roles.there c t r None runs_r) in
-        let sided = first_sided g r x.state st.lawful branch known stand.sides items items_are h.fits in
+        let sided = first_sided g r x.state st.lawful branch known stand.sides stand.core items items_are h.fits in
         let sized = st.sizes c a at_c ∙ ap (λ d. sizes_in (parts_in g.image.cores d)) (sym (st.roles.core c t r None runs_r)) in
         let leads = settled_leads g r (laid_at moment c t r None runs_r) lt items j z h sized own sided in
         (leads.0, leads.1, (let le = leads.2 in omega (arith, le, few)), leads.3)
