@@ -20,4 +20,6 @@ pub mod TransferErrs
 pub mod OwnTransfers
 pub mod Advances
 pub mod SelectEnds
+pub mod Puts
 pub mod Deliveries
+pub mod LateAnswers

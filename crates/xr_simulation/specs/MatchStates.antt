@@ -9,6 +9,7 @@ use Rattle.xc_kernel.specs.declared.kernel.PortUse.{PortUse}
 use Rattle.xc_kernel.specs.Things.{variable}
 use Rattle.xc_meaning.specs.Counts.KernelCounts.{kernel_bound}
 use Rattle.xc_meaning.specs.States.Branches.{Birth, Branch, Mode, has_ended, runs, waits, ended, erred}
+use Rattle.xc_meaning.specs.States.Channels.{Parcel}
 use Rattle.xc_meaning.specs.States.Items.{Item}
 use Rattle.xc_meaning.specs.States.Worlds.{World}
 use Rattle.xc_meaning.specs.Uses.{by_items}
@@ -27,7 +28,7 @@ use Rattle.xr_simulation.specs.Runners.{HoldsPlaces, Setting, Runner, IsPort, an
 use Rattle.xr_simulation.specs.Sizes.{sizes_in, sizes_of}
 use Rattle.xr_simulation.specs.ThreadViews.{ThreadView}
 use Rattle.xr_simulation.specs.Plain.{ArePlain}
-use Rattle.xr_simulation.specs.Transfers.{StopsIn, Transfer, steps_left}
+use Rattle.xr_simulation.specs.Transfers.{StopsIn, Transfer, spared, steps_left}
 use Rattle.xr_simulation.specs.NextStep.{GivesBack, InTransfer, IsJoining, Leads, PortIs, Rest, cost, is_watching}
 use Rattle.xr_simulation.specs.Wired.{AreWired, HasAlone}
 
@@ -72,10 +73,15 @@ module _ (g : Setting) (r : Runner) where
   IfTrue true A = A
   IfTrue false A = ⊥
 
+  -- the silent steps behind a transfer, where nothing is late; else an action of the branch pays for them
+  abbrev pub cost_behind : (late : List Parcel) → ℕ
+  cost_behind [] = cost g r
+  cost_behind (p ∷ ps) = 0
+
   -- the thread is inside a transfer
   abbrev pub IsTransferring : Transfer → List Item → (most : ℕ) → ThreadView → Type 0
   IsTransferring transfer items most z =
-      (j : ℕ) × (steps_left transfer.phase + j + cost g r ≤ most) × InTransfer g r transfer items j z
+      (j : ℕ) × (steps_left transfer.phase + j + cost_behind transfer.late ≤ most) × InTransfer g r transfer items j z
 
   -- by whether it is inside one
   abbrev pub ProgressWith : (may_rest : Bool) → Option Transfer → List Item → (left : ℕ) → ThreadView → Type 0
@@ -97,7 +103,8 @@ module _ (g : Setting) (r : Runner) where
     pub events : EventsAre mode items thread.event_bit
     pub is : ThreadIs r.parents mode thread.mode
 
-  -- The thread runs this branch, in a life whose steps, with those that are left to it before the branch's next one, are within the bound.
+  -- The thread runs this branch, in a life whose steps, with those that are left to it before the branch's next one and those that are
+  -- spared for a late offer, are within the bound.
   pub record RunsBranch
       (may_rest : Bool) (hand : Option Acquired) (a : CoreState) (x : World) (life : Life) (actions : (family : ℕ) → ℕ)
       (branch : Branch) : Type 0 where
@@ -113,7 +120,7 @@ module _ (g : Setting) (r : Runner) where
     pub stops : branch.mode ≡ erred → StopsIn r.transfer
     pub ends_tied : branch.mode ≡ ended → r.parents ≡ [] → (n : ℕ) × (r.tie ≡ Some n)
     pub left : ℕ
-    pub bound : life.steps + left ≤ kernel_bound g.program * (actions r.family + 1)
+    pub bound : life.steps + (left + spared r.transfer) ≤ kernel_bound g.program * (actions r.family + 1)
     pub by : ProgressBy may_rest branch.items branch.mode left (record { core = a; world = x; hand = hand })
 
 -- what thread t of a core does: where it runs a branch it does that branch's work

@@ -1,5 +1,5 @@
 -- What a thread's next step is, once it stands at the own instruction of its branch's first item, and the branch's action that goes with it.
-use Rattle.std.specs.Prelude.{◌≡◌, ℕ, zero, suc, ◌+◌, ◌*◌, ◌-◌, ◌<◌, ◌≤◌, Bool, true, false, List, [], ◌∷◌, Option, Some, None, length, slice_get, slice_index_or, slice_set, nat_eq, ◌||◌}
+use Rattle.std.specs.Prelude.{◌≡◌, ◌⊎◌, ℕ, zero, suc, ◌+◌, ◌*◌, ◌-◌, ◌<◌, ◌≤◌, Bool, true, false, List, [], ◌∷◌, Option, Some, None, length, slice_get, slice_index_or, slice_set, nat_eq, ◌||◌}
 use Rattle.xw_words.specs.declared.pos.Pos.{Pos}
 use Rattle.xs_instr.specs.declared.state.CoreState.{CoreState}
 use Rattle.xs_instr.specs.declared.instr.Reg.{Reg}
@@ -32,7 +32,7 @@ use Rattle.xc_kernel.specs.Eval.{eval, words_of}
 use Rattle.xc_kernel.specs.Things.{change}
 use Rattle.xc_meaning.specs.Counts.KernelCounts.{branch_count}
 use Rattle.xc_meaning.specs.Settings.Sides.{sides_in}
-use Rattle.xc_meaning.specs.States.Channels.{Side}
+use Rattle.xc_meaning.specs.States.Channels.{Side, offer}
 use Rattle.xc_meaning.specs.States.Items.{Body, Choice, Item, body_items, chooses, does, fixed, ends, stores, stamps, storing, todo}
 use Rattle.xc_meaning.specs.States.Branches.{Branch, runs, ended, erred}
 use Rattle.xc_meaning.specs.States.Worlds.{World, Action, go, take, default}
@@ -50,6 +50,7 @@ use Rattle.xl_select.specs.Entry.{EntersPortCase, EntersTimerCase}
 use Rattle.xr_events.specs.Armed.{IsArmed, Places, res_of}
 use Rattle.xr_events.specs.Latches.{HasLatched}
 use Rattle.xr_events.specs.Turns.{WaitsAt}
+use Rattle.xr_channels.specs.Phases.{awaits_ack, offers, sends_end}
 use Rattle.xr_simulation.specs.Items.{EndAt, ItemsAt}
 use Rattle.xr_simulation.specs.Parents.{Parent, syncs_of}
 use Rattle.xl_statements.specs.Pieces.{Exit, LinesAt, PieceAt}
@@ -212,6 +213,23 @@ left_behind (takes_in i) rest last = storing i.target last.r0 rest
 abbrev pub IsReady : Piece → World → List Item → Type 0
 IsReady (puts_out o v) x rest = eval x.store o.value ≡ word v
 IsReady (takes_in i) x rest = AwaitsNothing rest
+
+-- Of an output whose word is on a link the offer isn't put yet: the branch has the output to do still, with this word for its value.
+pub record IsUnput (transfer : Transfer) (pos : Pos) (items : List Item) (x : World) : Type 0 where
+  pub output : kernel.Output
+  pub value : ℕ
+  pub rest : List Item
+  pub late : transfer.late ≡ offer value ∷ []
+  pub phase : (transfer.phase ≡ sends_end value) ⊎ (transfer.phase ≡ awaits_ack (offers value))
+  pub items_are : items ≡ does (kernel.output output) ∷ rest
+  pub on_channel : output.resource ≡ resource.Chan transfer.channel
+  pub place : output.pos ≡ pos
+  pub ready : eval x.store output.value ≡ word value
+
+-- What is left to the branch of a thread inside a transfer: nothing is late, and it goes with the phase; or the offer isn't put yet.
+pub data LeftTo (transfer : Transfer) (pos : Pos) (items : List Item) (x : World) : Type 0 where
+  on_time : transfer.late ≡ [] → GoesWith transfer.phase transfer.channel pos items → LeftTo transfer pos items x
+  unput : IsUnput transfer pos items x → LeftTo transfer pos items x
 
 -- dp names a block's base and sp a word, and from r1 on stand the names of these synchronisers of a core, the first one's first
 pub record HasBasesBy (block : Activation) (stack_word core : ℕ) (syncs : List ℕ) (regs : Regs) : Type 0 where
@@ -572,12 +590,10 @@ module _ (g : Setting) (r : Runner) where
     pub fits : ItemsFit g r (does (statement_of piece) ∷ rest)
     pub has : Has (does (statement_of piece) ∷ rest) y
 
-  -- The thread is inside a transfer, of which nothing is late, and takes the steps that are left of it; behind them follows what is left
-  -- to the branch.
+  -- The thread is inside a transfer, and takes the steps that are left of it; behind them follows what is left to the branch.
   pub record InTransfer (transfer : Transfer) (items : List Item) (j : ℕ) (z : ThreadView) : Type 0 where
     pub pos : Pos
-    pub on_time : transfer.late ≡ []
-    pub goes_with : GoesWith transfer.phase transfer.channel pos items
+    pub left : LeftTo transfer pos items z.world
     pub stands_in : slice_index_or r.sides transfer.channel None ≡ Some transfer.side
     pub no_hand : z.hand ≡ None
     pub pc : ℕ

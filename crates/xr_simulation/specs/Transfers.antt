@@ -37,6 +37,15 @@ acts_left streams = []
 abbrev pub steps_left : Phase → ℕ
 steps_left phase = length (acts_left phase)
 
+-- A thread may do some steps more than its branch's actions pay for, until what is late is put: it sends a word and its END before.
+abbrev pub spared_with : (late : List Parcel) → ℕ
+spared_with [] = 3
+spared_with (p ∷ ps) = 0
+
+abbrev pub spared : Option Transfer → ℕ
+spared None = 3
+spared (Some transfer) = spared_with transfer.late
+
 -- no answer is waited for, and no event
 abbrev pub AwaitsNothing : List Item → Type 0
 AwaitsNothing (awaits c pos ∷ rest) = ⊥

@@ -14,7 +14,7 @@ use Rattle.xr_simulation.specs.Fits.{ItemsFit}
 use Rattle.xr_simulation.specs.Runners.{home, shrunk}
 use Rattle.xr_simulation.specs.ThreadViews.{running}
 use Rattle.xr_simulation.specs.MatchStates.{IfTrue, IsAtRest, ProgressWith, none_rests}
-use Rattle.xr_simulation.specs.Transfers.{StopsIn, all_but_first, in_phase}
+use Rattle.xr_simulation.specs.Transfers.{GoesWith, StopsIn, all_but_first, in_phase}
 use Rattle.xr_simulation.specs.NextStep.{Errs, InTransfer, IsBehind, Runs, cost}
 use Rattle.xr_simulation.specs.Wired.{boxes_in}
 use Rattle.xr_simulation.proofs.Channels.Worlds.{answered, answered_boxes, awaiting_errs, takes_answer}
@@ -41,7 +41,8 @@ module _ {moment : Moment none_rests} {thread_at : ThreadAt moment None} (branch
     (its : thread_at.runner.transfer ≡ Some (in_phase channel side (awaits_ack (offers v)))) (j : ℕ)
     (few : 1 + j + cost moment.setting thread_at.runner ≤ branch_at.stand.left)
     (h : InTransfer moment.setting thread_at.runner (in_phase channel side (awaits_ack (offers v))) branch_at.branch.items j
-    (record { core = thread_at.state; world = moment.told.state; hand = None })) where
+    (record { core = thread_at.state; world = moment.told.state; hand = None }))
+    (goes : GoesWith (awaits_ack (offers v)) channel h.pos branch_at.branch.items) where
   open moment use {setting as g, first, image as is, roles as who, watched as w, told as x, standing as st}
   open thread_at use {core as c, thread as t, state as a, at_core as at_c, runner as r, runs as runs_r}
   open branch_at use {branch, known, stand}
@@ -51,10 +52,10 @@ module _ {moment : Moment none_rests} {thread_at : ThreadAt moment None} (branch
 
   -- the branch, which waits for the answer
   abbrev rest : List Item
-  rest = h.goes_with.0
+  rest = goes.0
 
   waiting : Runs x.state r.branch branch (awaits channel h.pos ∷ rest)
-  waiting = record { known = known; running = on; items_are = h.goes_with.1 }
+  waiting = record { known = known; running = on; items_are = goes.1 }
 
   stands : side_of branch channel ≡ Some side
   stands = ap (λ l. slice_index_or l channel None) stand.sides ∙ h.stands_in
@@ -63,7 +64,7 @@ module _ {moment : Moment none_rests} {thread_at : ThreadAt moment None} (branch
   outside = st.plain.outside r.branch branch known
 
   code_behind : IsBehind g r rest j (h.pc + 1) h.regs
-  code_behind = subst (λ items. IsBehind g r (all_but_first items) j (h.pc + 1) h.regs) h.goes_with.1 h.steps.1
+  code_behind = subst (λ items. IsBehind g r (all_but_first items) j (h.pc + 1) h.regs) goes.1 h.steps.1
 
   -- the answer stood first
   module _ (ps : List Parcel) (found : parcels x.state.inboxes channel side ≡ taken ∷ ps) where
@@ -107,7 +108,7 @@ module _ {moment : Moment none_rests} {thread_at : ThreadAt moment None} (branch
                   here = here_at rest does_answer.unwatched (gone_on g r a h.pc h.regs h.regs h.here es);
                   bases = code_behind.0;
                   stands = code_behind.2 (left does_answer es);
-                  fits = (subst (ItemsFit g r) h.goes_with.1 h.fits).1;
+                  fits = (subst (ItemsFit g r) goes.1 h.fits).1;
                   has = has_behind does_answer es;
                 })),
           )))

@@ -26,7 +26,7 @@ use Rattle.xl_plan.specs.Layout.{core_of}
 use Rattle.xr_simulation.specs.Runners.{IsChannel, Runner, end_place, home}
 use Rattle.xr_simulation.specs.MatchStates.{ProgressWith, none_rests}
 use Rattle.xr_simulation.specs.ThreadViews.{running}
-use Rattle.xr_simulation.specs.Transfers.{Transfer, owing}
+use Rattle.xr_simulation.specs.Transfers.{Transfer, owing, spared}
 use Rattle.xr_simulation.specs.NextStep.{cost}
 use Rattle.xr_simulation.specs.Wired.{HasAlone, IsLine, boxes_in}
 use Rattle.xr_simulation.proofs.Channels.Inboxes.{line_boxed, line_parcels}
@@ -215,7 +215,7 @@ module _ {moment : Moment none_rests} {thread_at : ThreadAt moment None} (branch
     -- the step goes on, and the program does nothing
     module _ (on : branch.mode ≡ runs) (next : Option Transfer) (later : Phase) (left_late : List Parcel)
         (then : IsThen channel side next later left_late)
-        (rests : (core thread : ℕ) → Bool) (elsewhere : (d u : ℕ) → d ≢ c → rests d u ≡ false) (fewer : ℕ) (few : suc fewer ≤ stand.left)
+        (rests : (core thread : ℕ) → Bool) (elsewhere : (d u : ℕ) → d ≢ c → rests d u ≡ false) (fewer : ℕ) (few : suc fewer + spared next ≤ stand.left + spared r.transfer)
         (by : (es : List ChanEnd) → ProgressWith g (record r { transfer = next }) (rests c t) next branch.items fewer
         (record { core = left regs es; world = x.state; hand = None })) where
       pub goes_row : (es : List ChanEnd) (sent : List Sent) → slot (home g r) a r.thread ≡ Made (left regs es) None sent →

@@ -23,7 +23,7 @@ use Rattle.xr_simulation.specs.Roles.{Roles, empty}
 use Rattle.xr_simulation.specs.Runners.{Runner, Setting, home}
 use Rattle.xr_simulation.specs.ThreadViews.{ThreadView, running}
 use Rattle.xr_simulation.specs.MatchStates.{EventsAre, RunsBranch, ProgressBy, ProgressWith, ThreadIs, none_rests}
-use Rattle.xr_simulation.specs.Transfers.{Transfer, owing}
+use Rattle.xr_simulation.specs.Transfers.{Transfer, owing, spared}
 use Rattle.xr_simulation.specs.NextStep.{is_watching}
 use Rattle.xr_simulation.specs.Wired.{AreWired, HasAlone, IsLine, IsTransferring}
 use Rattle.xr_simulation.proofs.Channels.Advances.{advances, watched_next, who_next}
@@ -132,7 +132,7 @@ module _ {moment : Moment none_rests} {thread_at : ThreadAt moment None} (branch
       sym is ∙ ap (λ (i : Thread). i.event_bit) same
 
   -- it is on its way still, by fewer steps
-  own_stand : (rests : Bool) (fewer : ℕ) → suc fewer ≤ stand.left → ProgressWith g s rests next branch.items fewer behind → RunsBranch g s rests None left x.state (watched.lives c t) more branch
+  own_stand : (rests : Bool) (fewer : ℕ) → suc fewer + spared next ≤ stand.left + spared r.transfer → ProgressWith g s rests next branch.items fewer behind → RunsBranch g s rests None left x.state (watched.lives c t) more branch
   own_stand rests fewer few by = record {
     core = stand.core;
     family = stand.family;
@@ -157,7 +157,7 @@ module _ {moment : Moment none_rests} {thread_at : ThreadAt moment None} (branch
         let old = stand.bound in
         let same : x.actions r.family + 0 ≡ x.actions r.family = omega arith in
         let life : (watched.lives c t).steps ≡ (w.lives c t).steps + 1 = ap (λ (l : Life). l.steps) (own_life w watched.machine c t) in
-        subst (λ m. (watched.lives c t).steps + fewer ≤ kernel_bound g.program * (m + 1)) (sym same) (omega arith);
+        subst (λ m. (watched.lives c t).steps + (fewer + spared next) ≤ kernel_bound g.program * (m + 1)) (sym same) (omega arith);
     by = subst (λ m. ProgressBy g s rests branch.items m fewer behind) (sym on) by;
   }
     where
@@ -168,7 +168,7 @@ module _ {moment : Moment none_rests} {thread_at : ThreadAt moment None} (branch
       runs_erred f = cc
 
   -- so the two sides stand so again
-  pub goes_on_so : (may_rest' : (core thread : ℕ) → Bool) (fewer : ℕ) → suc fewer ≤ stand.left → ProgressWith g s (may_rest' c t) next branch.items fewer behind →
+  pub goes_on_so : (may_rest' : (core thread : ℕ) → Bool) (fewer : ℕ) → suc fewer + spared next ≤ stand.left + spared r.transfer → ProgressWith g s (may_rest' c t) next branch.items fewer behind →
       AreWired g (who_next thread_at left (advance g r a pc regs regs here ends size) next sent) watched.machine x.state →
       ((transfer : Transfer) → next ≡ Some transfer → HasAlone x.state.branches transfer.channel transfer.side r.branch) → Follows g may_rest' who w x watched
   goes_on_so may_rest' fewer few by wired alone =

@@ -20,7 +20,7 @@ use Rattle.xr_simulation.specs.Runners.{home, shrunk}
 use Rattle.xr_simulation.specs.ThreadViews.{running}
 use Rattle.xr_simulation.specs.MatchStates.{ProgressWith, none_rests}
 use Rattle.xr_simulation.specs.Transfers.{AwaitsNothing, StopsIn, Transfer, in_phase}
-use Rattle.xr_simulation.specs.NextStep.{Communicates, Errs, InTransfer, cost, takes_in}
+use Rattle.xr_simulation.specs.NextStep.{Communicates, Errs, InTransfer, cost, on_time, takes_in}
 use Rattle.xr_simulation.specs.Wired.{boxes_in}
 use Rattle.xr_simulation.proofs.Channels.Worlds.{input_errs, received, received_boxes, takes_offer}
 use Rattle.xr_simulation.proofs.Channels.EndRows.{AtEnd, Goal, acts_row, answered_there, boxes_answered, side_end, stays_in, word_row}
@@ -120,8 +120,7 @@ module _ {moment : Moment none_rests} {thread_at : ThreadAt moment None} (branch
       inside : InTransfer g r transfer items j (behind does_input es)
       inside = record {
         pos = i.pos;
-        on_time = refl;
-        goes_with = nothing_awaited_behind;
+        left = on_time refl nothing_awaited_behind;
         stands_in = h.on.stands_in;
         no_hand = refl;
         pc = h.pc + 1;

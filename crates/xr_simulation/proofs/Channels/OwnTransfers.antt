@@ -21,7 +21,7 @@ use Rattle.xr_simulation.specs.Roles.{empty, used_by}
 use Rattle.xr_simulation.specs.Runners.{Runner, footprint_of}
 use Rattle.xr_simulation.specs.ThreadViews.{ThreadView, running}
 use Rattle.xr_simulation.specs.MatchStates.{RunsBranch, ProgressBy, ProgressWith, ThreadIs, none_rests}
-use Rattle.xr_simulation.specs.Transfers.{Transfer}
+use Rattle.xr_simulation.specs.Transfers.{Transfer, spared}
 use Rattle.xr_simulation.specs.NextStep.{Has, IsNext, cost, is_watching, own_go}
 use Rattle.xr_simulation.specs.Wired.{AreWired, HasAlone}
 use Rattle.xr_simulation.proofs.Channels.OwnSide.{alone_behind}
@@ -32,7 +32,7 @@ use Rattle.xr_simulation.proofs.Channels.EndSteps.{gone_on, tied_still, touches}
 use Rattle.xr_simulation.proofs.RelyGuarantee.Less.{uses_less}
 use Rattle.xr_simulation.proofs.Lives.OwnLife.{own_life}
 use Rattle.xr_simulation.proofs.Relation.Moments.{BranchAt, Moment, ThreadAt}
-use Rattle.xr_simulation.proofs.OwnSteps.Events.{OwnStep, event_follows, is_step, watched_behind}
+use Rattle.xr_simulation.proofs.OwnSteps.Events.{OwnStep, event_follows, is_step, spared_few, watched_behind}
 use Rattle.xr_simulation.proofs.Relation.Seats.{with_role}
 use Rattle.xr_simulation.proofs.RelyGuarantee.Footprints.{IsWithin, within_of_uses}
 use Rattle.xr_simulation.proofs.Relation.Lasting.{Follows, told_by}
@@ -40,8 +40,9 @@ use Rattle.xr_simulation.proofs.OwnSteps.AnsweredTurns.{parents_behind}
 use Rattle.xr_simulation.proofs.RelyGuarantee.Events.{events_on}
 
 -- a step of the family pays for the steps that are left of the transfer
-pays_for : (most greatest steps left j further actions more : ℕ) → most ≡ 8 * (greatest + 16) → steps + left ≤ most * (actions + 1) → j ≤ left → further ≤ j + 2 + (8 * greatest + 8) → 1 ≤ more → steps + 1 + further ≤ most * (actions + more + 1)
-pays_for most greatest steps left j further actions more is bound few enough some =
+pays_for : (most greatest steps left j further actions more spare : ℕ) → most ≡ 8 * (greatest + 16) → steps + left ≤ most * (actions + 1) → j ≤ left → further ≤ j + 2 + (8 * greatest + 8) → 1 ≤ more → spare ≤ 3 →
+    steps + 1 + (further + spare) ≤ most * (actions + more + 1)
+pays_for most greatest steps left j further actions more spare is bound few enough some three =
     let le : actions + 1 + 1 ≤ actions + more + 1 = omega arith in
     let grown = mul-le-mul_left most le in
     omega (arith, grown)
@@ -147,13 +148,14 @@ module _ {moment : Moment none_rests} {thread_at : ThreadAt moment None} {branch
     watched = watched_behind thread_at own_step none_rests sent
 
     -- its life is one step longer
-    bound_behind : (j further : ℕ) → j ≤ stand.left → further ≤ j + 2 + cost g r → (watched.lives c t).steps + further ≤ kernel_bound g.program * (more r.family + 1)
+    bound_behind : (j further : ℕ) → j ≤ stand.left → further ≤ j + 2 + cost g r → (watched.lives c t).steps + (further + spared transfer) ≤ kernel_bound g.program * (more r.family + 1)
     bound_behind j further few enough =
         let one : 1 ≤ steps_of g.program g.stimulus branch.family (Some x.state) (go r.branch ∷ []) = counts_own g r.branch x.state branch (go r.branch) [] known own_go in
         let one' : 1 ≤ steps_of g.program g.stimulus r.family (Some x.state) (go r.branch ∷ []) = subst (λ f. 1 ≤ steps_of g.program g.stimulus f (Some x.state) (go r.branch ∷ [])) stand.family one in
         let life : (watched.lives c t).steps ≡ (w.lives c t).steps + 1 = ap (λ (l : Life). l.steps) (own_life w watched.machine c t) in
-        let all = pays_for (kernel_bound g.program) (greatest_count g.program) (w.lives c t).steps stand.left j further (x.actions r.family) (steps_of g.program g.stimulus r.family (Some x.state) (go r.branch ∷ [])) refl stand.bound few enough one' in
-        subst (λ k. k + further ≤ kernel_bound g.program * (more r.family + 1)) (sym life) all
+        let all = pays_for (kernel_bound g.program) (greatest_count g.program) (w.lives c t).steps stand.left j further (x.actions r.family) (steps_of g.program g.stimulus r.family (Some x.state) (go r.branch ∷ [])) (spared transfer) refl
+        (let old = stand.bound in omega (arith, old)) few enough one' (spared_few transfer) in
+        subst (λ k. k + (further + spared transfer) ≤ kernel_bound g.program * (more r.family + 1)) (sym life) all
 
     own_stand : (rests : Bool) (j further : ℕ) → j ≤ stand.left → further ≤ j + 2 + cost g r →
         ProgressWith g (s does) rests transfer items further behind →

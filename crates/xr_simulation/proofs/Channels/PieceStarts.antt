@@ -6,18 +6,14 @@ use Rattle.xc_kernel.specs.declared.statement.KRes.TheVariants.{Chan}
 use Rattle.xc_kernel.specs.Things.{by_resource, channel}
 use Rattle.xc_meaning.proofs.Basics.{or_left, same_number}
 use Rattle.xc_meaning.specs.States.Branches.{Branch, runs, side_of}
-use Rattle.xc_meaning.specs.States.Channels.{Side, first, other_side, second}
 use Rattle.xc_meaning.specs.States.Items.{Item, does}
 use Rattle.xc_meaning.specs.Uses.{by_items}
-use Rattle.xl_image.specs.Images.{pair_of}
 use Rattle.xr_simulation.specs.Fits.{ItemsFit, PutsOutAt, TakesInAt}
 use Rattle.xr_simulation.specs.Runners.{IsChannel, Runner, Setting}
 use Rattle.xr_simulation.specs.MatchStates.{none_rests}
 use Rattle.xr_simulation.specs.NextStep.{Communicates, Has, Piece, Runs, puts_out, resource_of, statement_of, takes_in}
 use Rattle.xr_simulation.proofs.Channels.EndRows.{AtEnd, begins_there}
 use Rattle.xr_simulation.proofs.Relation.Moments.{BranchAt, Moment, ThreadAt}
-use Rattle.xr_simulation.proofs.Channels.TransferBegins.{sides_there}
-use Rattle.xr_channels.specs.Channels.{end_of_side}
 use Rattle.xr_channels.specs.Phases.{between}
 
 -- the channel is one of the core's
@@ -68,12 +64,3 @@ module _ {moment : Moment none_rests} {thread_at : ThreadAt moment None} (branch
 
   abbrev pub at_end : AtEnd thread_at h.on.channel h.on.side between []
   at_end = begins_there thread_at none branch known on h.on.channel h.on.side is_channel uses stands h.on.here
-
-  -- both ends of the channel are on the core
-  pub sides_within : (end_of_side (pair_of g.program h.on.channel) (other_side h.on.side)).core
-      ≡ (end_of_side (pair_of g.program h.on.channel) h.on.side).core
-  sides_within = there (other_side h.on.side) ∙ sym (there h.on.side)
-    where
-      there : (s : Side) → (end_of_side (pair_of g.program h.on.channel) s).core ≡ thread_at.core
-      there first = sides_there thread_at none branch known on h.on.channel h.on.side is_channel uses stands h.on.here first
-      there second = sides_there thread_at none branch known on h.on.channel h.on.side is_channel uses stands h.on.here second

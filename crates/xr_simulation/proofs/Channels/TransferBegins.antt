@@ -12,7 +12,7 @@ use Rattle.xl_par.specs.Acquired.{Acquired}
 use Rattle.xl_plan.specs.Layout.{core_of}
 use Rattle.xr_simulation.specs.Runners.{IsChannel, Runner}
 use Rattle.xr_simulation.specs.Transfers.{owing}
-use Rattle.xr_simulation.specs.Wired.{AreSidesOn, HasAlone, IsLine, IsTransferring}
+use Rattle.xr_simulation.specs.Wired.{HasAlone, IsLine, IsTransferring}
 use Rattle.xr_simulation.proofs.Channels.OwnSide.{alone_begins, alone_excludes}
 use Rattle.xr_simulation.proofs.Relation.Moments.{Moment, ThreadAt}
 use Rattle.xr_simulation.proofs.Relation.CoreSteps.{same_runner, works_at}
@@ -48,10 +48,6 @@ module _ {may_rest : (core thread : ℕ) → Bool} {moment : Moment may_rest} {h
 
   pub core_there : core_of g.program d side ≡ c
   core_there = here ∙ st.roles.core c t r hand runs_r
-
-  -- both its sides are on the core
-  pub sides_there : AreSidesOn g.program d c
-  sides_there s = is.lines.near r.core d is_channel.known is_channel.used s ∙ st.roles.core c t r hand runs_r
 
   -- a thread that is inside a transfer there would run this very branch
   pub nobody : (e u : ℕ) → IsTransferring who e u d side → ⊥

@@ -1,18 +1,19 @@
 -- The steps of a transfer without an action of the program's: an output's END, and CHKCT END and ACK of an input.
-use Rattle.std.proofs.Common.{◌≡◌, ℕ, ◌+◌, ◌≤◌, ◌≢◌, inr, List, [], ◌∷◌, Some, None, refl, sym, ap, subst, arith}
+use Rattle.std.proofs.Common.{◌≡◌, ℕ, ◌+◌, ◌≤◌, ◌≢◌, ◌⊎◌, inl, inr, List, [], ◌∷◌, Some, None, refl, sym, ap, subst, arith}
 use Rattle.std.specs.Prelude.{Bool, false, ◌&&◌, nat_eq, slice_get}
 use Rattle.std.proofs.lemmas.Bool.{ne_eqb}
+use Rattle.xw_words.specs.declared.pos.Pos.{Pos}
 use Rattle.xs_instr.specs.declared.state.ChanEnd.{ChanEnd}
 use Rattle.xs_instr.specs.declared.state.Regs.{Regs}
 use Rattle.xs_instr.specs.declared.state.Sent.{Sent}
 use Rattle.xs_instr.specs.Ends.{control_token}
 use Rattle.xc_meaning.specs.States.Branches.{runs}
-use Rattle.xc_meaning.specs.States.Channels.{Side}
+use Rattle.xc_meaning.specs.States.Channels.{Parcel, Side}
 use Rattle.xr_simulation.specs.Runners.{Runner}
 use Rattle.xr_simulation.specs.ThreadViews.{ThreadView, running}
-use Rattle.xr_simulation.specs.MatchStates.{IfTrue, IsAtRest, ProgressWith, none_rests}
-use Rattle.xr_simulation.specs.Transfers.{GoesWith, acts_left, all_but_first, items_behind, steps_left, in_phase}
-use Rattle.xr_simulation.specs.NextStep.{Has, InTransfer, IsBehind, TakesSteps, cost}
+use Rattle.xr_simulation.specs.MatchStates.{IfTrue, IsAtRest, ProgressWith, cost_behind, none_rests}
+use Rattle.xr_simulation.specs.Transfers.{GoesWith, acts_left, all_but_first, in_phase, items_behind, owing, spared, steps_left}
+use Rattle.xr_simulation.specs.NextStep.{Has, InTransfer, IsBehind, LeftTo, TakesSteps, cost, on_time, unput}
 use Rattle.xr_simulation.proofs.OwnSteps.Answers as answers
 use Rattle.xr_simulation.proofs.Channels.EndRows.{AtEnd, Goal, boxes, ends_row, goes_out, goes_row, inside_there, sends_row, side_end, stays_in}
 use Rattle.xr_simulation.proofs.Channels.EndSteps as step
@@ -52,18 +53,18 @@ module _ {moment : Moment none_rests} {thread_at : ThreadAt moment None} (branch
       }
 
   -- the thread is at the next step of its transfer
-  later_steps : (phase later : Phase) (j fewer : ℕ) → steps_left later + j + cost g r ≤ fewer → (h : InTransfer g r (in_phase channel side phase) branch.items j now) → GoesWith later channel h.pos branch.items →
+  later_steps : (phase later : Phase) (late : List Parcel) (j fewer : ℕ) → steps_left later + j + cost_behind g r late ≤ fewer →
+      (h : InTransfer g r (owing channel side phase late) branch.items j now) → LeftTo (owing channel side later late) h.pos branch.items x.state →
       TakesSteps g r channel side h.pos (acts_left later) (IsBehind g r (items_behind later branch.items) j) (h.pc + 1) h.regs →
       (es : List ChanEnd) →
-      ProgressWith g (record r { transfer = Some (in_phase channel side later) }) false (Some (in_phase channel side later)) branch.items fewer (record { core = step.left g r a h.pc h.regs h.regs h.here es; world = x.state; hand = None })
-  later_steps phase later j fewer few h goes steps es =
-      let next = Some (in_phase channel side later) in (
+      ProgressWith g (record r { transfer = Some (owing channel side later late) }) false (Some (owing channel side later late)) branch.items fewer (record { core = step.left g r a h.pc h.regs h.regs h.here es; world = x.state; hand = None })
+  later_steps phase later late j fewer few h left steps es =
+      let next = Some (owing channel side later late) in (
         j,
-        few,
+        few_as late few,
         record {
           pos = h.pos;
-          on_time = refl;
-          goes_with = goes;
+          left = left;
           stands_in = h.stands_in;
           no_hand = refl;
           pc = h.pc + 1;
@@ -74,38 +75,68 @@ module _ {moment : Moment none_rests} {thread_at : ThreadAt moment None} (branch
           has = has_as g r next branch.items (record { core = step.left g r a h.pc h.regs h.regs h.here es; world = x.state; hand = None }) (has_still h.pc h.regs h.here es h.has);
         },
       )
+    where
+      -- the cost is that of the runner, whatever its transfer is
+      few_as : (l : List Parcel) → steps_left later + j + cost_behind g r l ≤ fewer →
+          steps_left later + j + cost_behind g (record r { transfer = Some (owing channel side later late) }) l ≤ fewer
+      few_as [] le = le
+      few_as (p ∷ ps) le = le
 
-  abbrev at_end : (phase : Phase) → r.transfer ≡ Some (in_phase channel side phase) → AtEnd thread_at channel side phase []
-  at_end phase its = inside_there thread_at channel side phase [] its
+  abbrev at_end : (phase : Phase) (late : List Parcel) → r.transfer ≡ Some (owing channel side phase late) →
+      AtEnd thread_at channel side phase late
+  at_end phase late its = inside_there thread_at channel side phase late its
+
+  -- an offer that isn't put yet isn't put by END
+  later_left : (v : ℕ) (late : List Parcel) (pos : Pos) → LeftTo (owing channel side (sends_end v) late) pos branch.items x.state →
+      LeftTo (owing channel side (awaits_ack (offers v)) late) pos branch.items x.state
+  later_left v late pos (on_time none goes) = on_time none goes
+  later_left v late pos (unput u) = unput (record {
+    output = u.output;
+    value = u.value;
+    rest = u.rest;
+    late = u.late;
+    phase = phase_then u.phase;
+    items_are = u.items_are;
+    on_channel = u.on_channel;
+    place = u.place;
+    ready = u.ready;
+  })
+    where
+      phase_then : (sends_end v ≡ sends_end u.value) ⊎ (sends_end v ≡ awaits_ack (offers u.value)) →
+          (awaits_ack (offers v) ≡ sends_end u.value) ⊎ (awaits_ack (offers v) ≡ awaits_ack (offers u.value))
+      phase_then (inl e) = let same : v ≡ u.value = cc in inr (ap (λ n. awaits_ack (offers n)) same)
+      phase_then (inr e) = let no : ⊥ = cc in absurd no
 
   -- END of an output
-  pub sends_end_followed : (v : ℕ) (its : r.transfer ≡ Some (in_phase channel side (sends_end v))) (j : ℕ) → 2 + j + cost g r ≤ stand.left →
-      InTransfer g r (in_phase channel side (sends_end v)) branch.items j now → Goal branch_at (at_end (sends_end v) its)
-  sends_end_followed v its j few h =
-      let here = at_end (sends_end v) its in
+  pub sends_end_followed : (v : ℕ) (late : List Parcel) (its : r.transfer ≡ Some (owing channel side (sends_end v) late)) (j : ℕ) →
+      2 + j + cost_behind g r late ≤ stand.left → InTransfer g r (owing channel side (sends_end v) late) branch.items j now →
+      Goal branch_at (at_end (sends_end v) late its)
+  sends_end_followed v late its j few h =
+      let here = at_end (sends_end v) late its in
       let later = awaits_ack (offers v) in
       let at = side_end branch_at here in
       let Then : List ChanEnd → List Sent → Type 0 = λ es sent. Next at (step.left g r a h.pc h.regs h.regs h.here es) sent
-      (boxes branch_at here) (side_state later false) [] in
+      (boxes branch_at here) (side_state later false) late in
       sends_row branch_at here h.pc h.regs h.here h.pos (control_token 1 ∷ []) Then h.steps.0
       (subst (λ l. SendRow at r.thread (running r.tie h.pc h.regs) (control_token 1 ∷ [])
       (SentNext at r.thread (running r.tie h.pc h.regs) (control_token 1 ∷ []) (boxes branch_at here) (side_state later false) l)) here.late_is
       (rows.outct_end at r.thread (running r.tie h.pc h.regs) v false here.stands))
-      (goes_row branch_at here h.pc h.regs h.here on (Some (in_phase channel side later)) later [] (stays_in refl) none_rests
-      (λ d u ne. refl) (1 + j + cost g r) (omega (arith, few))
-      (later_steps (sends_end v) later j (1 + j + cost g r) (omega arith) h h.goes_with
+      (goes_row branch_at here h.pc h.regs h.here on (Some (owing channel side later late)) later late (stays_in refl) none_rests
+      (λ d u ne. refl) (1 + j + cost_behind g r late) (let same = ap spared its in omega (arith, few, same))
+      (later_steps (sends_end v) later late j (1 + j + cost_behind g r late) (omega arith) h (later_left v late h.pos h.left)
       (end_sent g r channel side h.pos (IsBehind g r (all_but_first branch.items) j) h.pc h.regs v h.steps)))
 
   -- CHKCT END of an input
   pub checks_end_followed : (its : r.transfer ≡ Some (in_phase channel side checks_end)) (j : ℕ) → 2 + j + cost g r ≤ stand.left →
-      InTransfer g r (in_phase channel side checks_end) branch.items j now → Goal branch_at (at_end checks_end its)
-  checks_end_followed its j few h =
-      let here = at_end checks_end its in
+      (h : InTransfer g r (in_phase channel side checks_end) branch.items j now) → GoesWith checks_end channel h.pos branch.items →
+      Goal branch_at (at_end checks_end [] its)
+  checks_end_followed its j few h goes =
+      let here = at_end checks_end [] its in
       ends_row branch_at here h.pc h.regs h.here h.pos sends_ack h.steps.0
       (rows.chkct_end (side_end branch_at here) r.thread (running r.tie h.pc h.regs) false here.stands)
       (goes_row branch_at here h.pc h.regs h.here on (Some (in_phase channel side sends_ack)) sends_ack [] (stays_in refl) none_rests
-      (λ d u ne. refl) (1 + j + cost g r) (omega (arith, few))
-      (later_steps checks_end sends_ack j (1 + j + cost g r) (omega arith) h h.goes_with
+      (λ d u ne. refl) (1 + j + cost g r) (let same = ap spared its in omega (arith, few, same))
+      (later_steps checks_end sends_ack [] j (1 + j + cost g r) (omega arith) h (on_time refl goes)
       (end_taken g r channel side h.pos (IsBehind g r branch.items j) h.pc h.regs h.steps)))
 
   -- the thread has left its transfer, and is at the code of what is left, or on its way to the store of the word that has come in
@@ -141,13 +172,13 @@ module _ {moment : Moment none_rests} {thread_at : ThreadAt moment None} (branch
 
   -- ACK of an input
   pub sends_ack_followed : (its : r.transfer ≡ Some (in_phase channel side sends_ack)) (j : ℕ) → 1 + j + cost g r ≤ stand.left →
-      InTransfer g r (in_phase channel side sends_ack) branch.items j now → Goal branch_at (at_end sends_ack its)
+      InTransfer g r (in_phase channel side sends_ack) branch.items j now → Goal branch_at (at_end sends_ack [] its)
   sends_ack_followed its j few h =
-      let here = at_end sends_ack its in
+      let here = at_end sends_ack [] its in
       let Then : List ChanEnd → List Sent → Type 0 = λ es sent. Next (side_end branch_at here)
       (step.left g r a h.pc h.regs h.regs h.here es) sent (boxes branch_at here) (side_state between false) [] in
       sends_row branch_at here h.pc h.regs h.here h.pos (control_token 3 ∷ []) Then h.steps.0
       (rows.outct_ack (side_end branch_at here) r.thread (running r.tie h.pc h.regs) false here.stands)
       (goes_row branch_at here h.pc h.regs h.here on None between [] (goes_out refl refl refl) (rests_alone c t)
       (λ d u ne. alone_elsewhere c (nat_eq u t) d ne)
-      (j + cost g r) (omega (arith, few)) (left_it j h))
+      (j + cost g r) (let same = ap spared its in omega (arith, few, same)) (left_it j h))

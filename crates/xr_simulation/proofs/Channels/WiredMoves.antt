@@ -241,6 +241,20 @@ module _ (g : Setting) (lines : AreLines g) (who : Roles) (m : Machine) (world :
       (is_now d' u' k x i'))
       (is_now d u k x i)
 
+  -- whatever the machine is then, with as many ends
+  pub wired_so : (m' : Machine) (world' : World) → length world'.inboxes ≡ length world.inboxes →
+      ((d : ℕ) (b : CoreState) → slice_get m'.cores d ≡ Some b → length b.ends ≡ (parts_in g.image.cores d).ends) →
+      ChannelsOverLinks g.image.chans m'.cores m'.links (boxes_in g.program world'.inboxes) next → AreWired g who' m' world'
+  wired_so m' world' long ends over = record {
+    ghosts = next;
+    over = over;
+    long = long ∙ h.long;
+    ends = ends;
+    listed = listed;
+    stances = stances;
+    one = one;
+  }
+
   -- what the row leaves of the core's ends, and the program of the inboxes
   module _ (left : CoreState) (m' : Machine) (world' : World) (is : m'.cores ≡ slice_set m.cores c left) (sent : List Sent)
       (links_are : m'.links ≡ on_links m.links c sent) where
@@ -255,13 +269,7 @@ module _ (g : Setting) (lines : AreLines g) (who : Roles) (m : Machine) (world :
     pub wired_moves : length left.ends ≡ length a.ends → length world'.inboxes ≡ length world.inboxes →
         ChannelsOverLinks g.image.chans (slice_set m.cores c left) (on_links m.links c sent) (boxes_in g.program world'.inboxes)
         (moved_to h.ghosts line side (side_state phase false) late) → AreWired g (with_role who c t (used_by s hand')) m' world'
-    wired_moves size long over = record {
-      ghosts = next;
-      over = subst (λ l. ChannelsOverLinks g.image.chans l m'.links (boxes_in g.program world'.inboxes) next) (sym is)
-          (subst (λ l. ChannelsOverLinks g.image.chans (slice_set m.cores c left) l (boxes_in g.program world'.inboxes) next) (sym links_are) over);
-      long = long ∙ h.long;
-      ends = ends_still size;
-      listed = listed;
-      stances = stances;
-      one = one;
-    }
+    wired_moves size long over =
+        wired_so m' world' long (ends_still size)
+        (subst (λ l. ChannelsOverLinks g.image.chans l m'.links (boxes_in g.program world'.inboxes) next) (sym is)
+        (subst (λ l. ChannelsOverLinks g.image.chans (slice_set m.cores c left) l (boxes_in g.program world'.inboxes) next) (sym links_are) over))

@@ -14,6 +14,7 @@ use Rattle.xl_par.specs.Acquired.{Acquired, IsAmong}
 use Rattle.xr_match.specs.Lives.{Watched, in_use, life_after}
 use Rattle.xr_match.specs.Meanings.{of_kernel}
 use Rattle.xr_match.specs.Sources.{Counted}
+use Rattle.xr_simulation.specs.Transfers.{spared}
 use Rattle.xr_simulation.specs.Living.{AreNamed}
 use Rattle.xr_simulation.specs.Parents.{Parent}
 use Rattle.xr_simulation.specs.Roles.{ParentsWait, Roles, got_by, outermost, unused, used_by}
@@ -66,7 +67,7 @@ module _ (g : Setting) (may_rest : (core thread : ℕ) → Bool) (who who' : Rol
   freed_named goes syncs threads own acted others =
       let stand = stand_of g may_rest who w x st c a at_a t r hand runs in
       step_named g who who' w m' x x' st.roles named goes.longer c t a b at_a at_b r hand runs (gets_nothing a b t syncs own_in_use threads) goes.pars
-      (inr (own, pays_for (w.lives c t).steps stand.2.left (kernel_bound g.program) (x.actions r.family) (x'.actions r.family) (omega arith) stand.2.bound acted)) (λ c' t' ne. inl (others c' t' ne))
+      (inr (own, pays_for (w.lives c t).steps (stand.2.left + spared r.transfer) (kernel_bound g.program) (x.actions r.family) (x'.actions r.family) (omega arith) stand.2.bound acted)) (λ c' t' ne. inl (others c' t' ne))
 
   -- A synchroniser is given back.
   pub resumed_named : (n : ℕ) → Goes g x x' → slice_get a.syncs n ≡ Some true → b.syncs ≡ slice_set a.syncs n false → ((u : ℕ) → u ≢ t → slice_get b.threads u ≡ slice_get a.threads u) → (r' : Runner) (hand' : Option Acquired) → who' c t ≡ used_by r' hand' → r'.family ≡ r.family → HandStays hand hand' →

@@ -17,7 +17,7 @@ use Rattle.xr_simulation.specs.Roles.{IsParent, ParentWaits, ParentsWait, empty,
 use Rattle.xr_simulation.specs.Runners.{Setting, footprint_of, shrunk}
 use Rattle.xr_simulation.specs.ThreadViews.{ThreadView, running, running_so}
 use Rattle.xr_simulation.specs.MatchStates.{HasEnded, RunsBranch, ProgressBy, ProgressWith, ThreadIs, counts, none_rests}
-use Rattle.xr_simulation.specs.Transfers.{StopsIn, Transfer}
+use Rattle.xr_simulation.specs.Transfers.{StopsIn, Transfer, spared}
 use Rattle.xr_simulation.specs.NextStep.{Errs, Frees, Goes, IsTiedThread, IsWaitingTied, Waits, cost, failed, finished, is_watching}
 use Rattle.xr_simulation.proofs.OwnSteps.Answers.{errs_step, frees_step, goes_step, trap_leaves, waits_step}
 use Rattle.xr_simulation.proofs.Relation.Counts.{made_counts, root_counts}
@@ -25,7 +25,7 @@ use Rattle.xr_simulation.proofs.RelyGuarantee.Less.{uses_less}
 use Rattle.xr_simulation.proofs.Lives.OwnLife.{own_life}
 use Rattle.xr_simulation.proofs.Relation.Moments.{BranchAt, Moment, ThreadAt}
 use Rattle.xr_simulation.proofs.Relation.CoreSteps.{works_at}
-use Rattle.xr_simulation.proofs.OwnSteps.Events.{OwnStep, alone_on, bound_grows, goes_on_answered, other_branch, parent_waits, rests_alone, rests_there, watched_on, wired_on}
+use Rattle.xr_simulation.proofs.OwnSteps.Events.{OwnStep, alone_on, bound_grows, goes_on_answered, other_branch, parent_waits, rests_alone, rests_there, spared_few, watched_on, wired_on}
 use Rattle.xr_simulation.proofs.OwnSteps.Leaves.{leaves_answered, watched_off}
 use Rattle.xr_simulation.proofs.RelyGuarantee.Footprints.{IsWithin, rest_shrinks, within_of_uses}
 use Rattle.xr_simulation.proofs.Relation.Lasting.{Follows, parents_still, rests_more, told_by}
@@ -64,7 +64,7 @@ module _ {moment : Moment none_rests} {thread_at : ThreadAt moment None} (branch
 
     -- its life is one step longer
     bound_behind : (j further : ℕ) → j ≤ stand.left → further ≤ j + 1 + cost g r →
-        (e_watched.lives c t).steps + further ≤ kernel_bound g.program *
+        (e_watched.lives c t).steps + (further + spared r.transfer) ≤ kernel_bound g.program *
         ((told_by g.program g.stimulus x e.piece e.world).actions r.family + 1)
     bound_behind j further few enough =
         let one : 1 ≤ steps_of g.program g.stimulus branch.family (Some x.state) e.piece = subst
@@ -73,9 +73,10 @@ module _ {moment : Moment none_rests} {thread_at : ThreadAt moment None} (branch
         (λ f. 1 ≤ steps_of g.program g.stimulus f (Some x.state) e.piece) stand.family one in
         let life : (e_watched.lives c t).steps ≡ (w.lives c t).steps + 1 = ap (λ (l : Life). l.steps) (own_life w e_watched.machine c t) in
         let all = bound_grows (kernel_bound g.program) (greatest_count g.program) (w.lives c t).steps stand.left j further
-        (x.actions r.family) (steps_of g.program g.stimulus r.family (Some x.state) e.piece) refl stand.bound few enough one' in
-        subst (λ k. k + further ≤ kernel_bound g.program * ((told_by g.program g.stimulus x e.piece e.world).actions r.family + 1))
-        (sym life) all
+        (x.actions r.family) (steps_of g.program g.stimulus r.family (Some x.state) e.piece) refl (let old = stand.bound in omega (arith, old)) few enough one' in
+        let three = spared_few r.transfer in
+        subst (λ k. k + (further + spared r.transfer) ≤ kernel_bound g.program * ((told_by g.program g.stimulus x e.piece e.world).actions r.family + 1))
+        (sym life) (omega (arith, all, three))
 
     -- those that wait for the branch do so still
     pub parents_behind : ParentsWait g e.world r.core r.family r.parents r.branch

@@ -1,5 +1,5 @@
 -- Each step of a thread is followed by a piece of the program's run, and the two stand as before; some threads may be at rest.
-use Rattle.std.proofs.Common.{◌≡◌, ℕ, zero, suc, ◌+◌, ◌<◌, ◌≤◌, ◌≢◌, ◌⊎◌, inl, inr, [], ◌∷◌, List, Option, Some, None, refl, sym, ap, ◌∙◌, subst, arith}
+use Rattle.std.proofs.Common.{◌≡◌, ℕ, zero, suc, ◌+◌, ◌<◌, ◌≤◌, ◌≢◌, ◌⊎◌, inl, inr, [], ◌∷◌, List, Option, Some, None, refl, sym, ap, ◌∙◌, subst, ⊎_elim, arith}
 use Rattle.std.specs.Prelude.{Bool, true, false, nat_eq, slice_get}
 use Rattle.std.proofs.lemmas.Option.{same_Some, slice_get_within}
 use Rattle.xs_instr.specs.declared.image.Home.{Home}
@@ -15,7 +15,7 @@ use Rattle.xs_instr.specs.Machine.{Event, Machine, Move, Step, Tick, does, home_
 use Rattle.xs_instr.specs.Pool.{all_wait}
 use Rattle.xs_instr.specs.Slot.{slot, turn_at, turn_of}
 use Rattle.xc_meaning.specs.States.Branches.{Branch, Mode, runs, waits, ended, erred}
-use Rattle.xc_meaning.specs.States.Channels.{Side}
+use Rattle.xc_meaning.specs.States.Channels.{Parcel, Side}
 use Rattle.xc_meaning.specs.States.Worlds.{World}
 use Rattle.xl_par.specs.Acquired.{Acquired}
 use Rattle.xr_match.specs.Lives.{Life, Watched, watched_after}
@@ -26,9 +26,9 @@ use Rattle.xr_simulation.specs.Parents.{Parent}
 use Rattle.xr_simulation.specs.Roles.{AcquiredFits, Role, Roles, got_by, unused, used_by}
 use Rattle.xr_simulation.specs.Runners.{Setting, Runner, footprint_of, home}
 use Rattle.xr_simulation.specs.ThreadViews.{IsSilentStep, LeadsIn, Rely, ThreadView, giving_back}
-use Rattle.xr_simulation.specs.MatchStates.{EventsAre, HasEnded, HasThread, RunsBranch, ThreadRel, ProgressBy, ProgressWith, ThreadIs, none_rests}
-use Rattle.xr_simulation.specs.Transfers.{StopsIn, Transfer, steps_left, in_phase}
-use Rattle.xr_simulation.specs.NextStep.{Communicates, Errs, Frees, GivesBack, Goes, InTransfer, IsFree, IsWaitingTied, Joins, JoinsAt, Piece, NextStep, StableNextStep, Waits, begins, communicates, cost, errs, frees, goes_on, pauses, puts_out, at_select, takes_in, waits_tied}
+use Rattle.xr_simulation.specs.MatchStates.{EventsAre, HasEnded, HasThread, RunsBranch, ThreadRel, ProgressBy, ProgressWith, ThreadIs, cost_behind, none_rests}
+use Rattle.xr_simulation.specs.Transfers.{GoesWith, StopsIn, Transfer, in_phase, owing, steps_left}
+use Rattle.xr_simulation.specs.NextStep.{Communicates, Errs, Frees, GivesBack, Goes, InTransfer, IsUnput, LeftTo, on_time, unput, IsFree, IsWaitingTied, Joins, JoinsAt, Piece, NextStep, StableNextStep, Waits, begins, communicates, cost, errs, frees, goes_on, pauses, puts_out, at_select, takes_in, waits_tied}
 use Rattle.xr_simulation.proofs.Channels.AnswerRows.{answer_followed}
 use Rattle.xr_simulation.proofs.Par.Opens as begun
 use Rattle.xr_simulation.proofs.Par.Opens.{begins_followed}
@@ -37,6 +37,7 @@ use Rattle.xr_simulation.proofs.Channels.InTransfers as rows
 use Rattle.xr_simulation.proofs.Channels.InTransfers.{IsFollowed, behind_step, followed}
 use Rattle.xr_simulation.proofs.Channels.Deliveries.{move_followed}
 use Rattle.xr_simulation.proofs.Channels.InputRows.{input_followed}
+use Rattle.xr_simulation.proofs.Channels.LateAnswers.{late_answer_followed}
 use Rattle.xr_simulation.proofs.Par.Joins as joined
 use Rattle.xr_simulation.proofs.Par.Joins.{joins_followed}
 use Rattle.xr_simulation.proofs.Relation.Moments.{BranchAt, Moment, ThreadAt, branch_of, thread_of}
@@ -47,7 +48,7 @@ use Rattle.xr_simulation.proofs.ItemCode.SelectTurns.{SelectGoes}
 use Rattle.xr_simulation.proofs.OwnSteps.Events.{rests_alone}
 use Rattle.xr_simulation.proofs.Par.Resumes as resumes
 use Rattle.xr_simulation.proofs.Par.Resumes.{resumes_followed}
-use Rattle.xr_simulation.proofs.Relation.Lasting.{Follows}
+use Rattle.xr_simulation.proofs.Relation.Lasting.{Follows, stand_as}
 use Rattle.xr_simulation.proofs.Relation.Ticks.{no_machine, tick_followed}
 use Rattle.xr_simulation.proofs.Channels.TransferErrs.{errs_followed}
 use Rattle.xr_simulation.proofs.Channels.TransferRows.{alone_elsewhere, checks_end_followed, sends_ack_followed, sends_end_followed}
@@ -56,6 +57,11 @@ use Rattle.xr_simulation.proofs.RelyGuarantee.Events.{events_on}
 use Rattle.xr_channels.specs.Phases.{Phase, awaits_ack, between, checks_end, closes, opens, sends_ack, sends_end, streams, was_closed}
 use Rattle.xr_channels.specs.Phases as wires
 
+-- an offer isn't late in any other phase
+no_phase : (phase : Phase) (v : ℕ) → (phase ≡ sends_end v → ⊥) → (phase ≡ awaits_ack (wires.Question.offers v) → ⊥) →
+    (phase ≡ sends_end v) ⊎ (phase ≡ awaits_ack (wires.Question.offers v)) → ⊥
+no_phase phase v no_end no_ack h = ⊎_elim no_end no_ack h
+
 -- a piece follows, behind which some threads of one core may be at rest
 pub record FollowsSo (g : Setting) (old : Roles) (before : Watched) (x : Counted (of_kernel g.program)) (w : Watched) : Type 0 where
   pub core : ℕ
@@ -63,25 +69,6 @@ pub record FollowsSo (g : Setting) (old : Roles) (before : Watched) (x : Counted
   pub may_rest : (core thread : ℕ) → Bool
   pub elsewhere : (d u : ℕ) → d ≢ core → may_rest d u ≡ false
   pub follows : Follows g may_rest old before x w
-
--- the same stand, where what is in hand is the same
-abbrev pub stand_as : (g : Setting) (r : Runner) (rests : Bool) (hand hand' : Option Acquired) (a : CoreState) (x : World) (life : Life) (actions : ℕ → ℕ) (branch : Branch) → hand ≡ hand' → RunsBranch g r rests hand a x life actions branch → RunsBranch g r rests hand' a x life actions branch
-stand_as g r rests hand hand' a x life actions branch e h = record {
-  core = h.core;
-  family = h.family;
-  footprint = h.footprint;
-  parents = h.parents;
-  thread = h.thread;
-  in_hand = subst (AcquiredFits branch.items) e h.in_hand;
-  sides = h.sides;
-  inside = h.inside;
-  done = h.done;
-  stops = h.stops;
-  ends_tied = h.ends_tied;
-  left = h.left;
-  bound = h.bound;
-  by = subst (λ k. ProgressBy g r rests branch.items branch.mode h.left (record { core = a; world = x; hand = k })) e h.by;
-}
 
 -- a thread that doesn't run has no step
 pub idle_thread : (h : Home) (a : CoreState) (t : ℕ) (thread : Thread) → slice_get a.threads t ≡ Some thread → (thread.mode ≡ Unused) ⊎ ((thread.mode ≡ Waiting) ⊎ (thread.mode ≡ Trapped)) → (slot h a t ≡ Idle) ⊎ (slot h a t ≡ Paused)
@@ -177,18 +164,60 @@ module _ (moment : Moment none_rests)
       abbrev here_alone : BranchAt thread_alone
       here_alone = branch_of thread_alone branch known stand_alone
 
-      -- inside a transfer
-      in_transfer : branch.mode ≡ runs → (channel : ℕ) (side : Side) (phase : Phase) → r.transfer ≡ Some (in_phase channel side phase) → (j : ℕ) → steps_left phase + j + cost g r ≤ stand.left → InTransfer g r (in_phase channel side phase) branch.items j alone → Leaves (slot (home g r) a r.thread) → Goal
-      in_transfer on channel side between its j few h e = absurd h.goes_with
-      in_transfer on channel side (sends_end v) its j few h e = by_followed (sends_end_followed here_alone on channel side v its j few h) e
-      in_transfer on channel side (awaits_ack (wires.Question.offers v)) its j few h e = by_followed
-          (answer_followed here_alone on channel side v its j few h) e
-      in_transfer on channel side (awaits_ack opens) its j few h e = absurd h.goes_with
-      in_transfer on channel side (awaits_ack closes) its j few h e = absurd h.goes_with
-      in_transfer on channel side checks_end its j few h e = by_followed (checks_end_followed here_alone on channel side its j few h) e
-      in_transfer on channel side sends_ack its j few h e = by_followed (sends_ack_followed here_alone on channel side its j few h) e
-      in_transfer on channel side was_closed its j few h e = absurd h.goes_with
-      in_transfer on channel side streams its j few h e = absurd h.goes_with
+      -- inside a transfer of which nothing is late
+      in_transfer : branch.mode ≡ runs → (channel : ℕ) (side : Side) (phase : Phase) → r.transfer ≡ Some (in_phase channel side phase) → (j : ℕ) →
+          steps_left phase + j + cost g r ≤ stand.left → (h : InTransfer g r (in_phase channel side phase) branch.items j alone) →
+          GoesWith phase channel h.pos branch.items → Leaves (slot (home g r) a r.thread) → Goal
+      in_transfer on channel side between its j few h goes e = absurd goes
+      in_transfer on channel side (sends_end v) its j few h goes e =
+          by_followed (sends_end_followed here_alone on channel side v [] its j few h) e
+      in_transfer on channel side (awaits_ack (wires.Question.offers v)) its j few h goes e =
+          by_followed (answer_followed here_alone on channel side v its j few h goes) e
+      in_transfer on channel side (awaits_ack opens) its j few h goes e = absurd goes
+      in_transfer on channel side (awaits_ack closes) its j few h goes e = absurd goes
+      in_transfer on channel side checks_end its j few h goes e =
+          by_followed (checks_end_followed here_alone on channel side its j few h goes) e
+      in_transfer on channel side sends_ack its j few h goes e = by_followed (sends_ack_followed here_alone on channel side its j few h) e
+      in_transfer on channel side was_closed its j few h goes e = absurd goes
+      in_transfer on channel side streams its j few h goes e = absurd goes
+
+      -- inside one whose offer isn't put yet
+      in_late : branch.mode ≡ runs → (channel : ℕ) (side : Side) (phase : Phase) (late : List Parcel) →
+          r.transfer ≡ Some (owing channel side phase late) → (j : ℕ) → steps_left phase + j + cost_behind g r late ≤ stand.left →
+          (h : InTransfer g r (owing channel side phase late) branch.items j alone) →
+          IsUnput (owing channel side phase late) h.pos branch.items x.state → Leaves (slot (home g r) a r.thread) → Goal
+      in_late on channel side (sends_end v) late its j few h u e =
+          by_followed (sends_end_followed here_alone on channel side v late its j few h) e
+      in_late on channel side (awaits_ack (wires.Question.offers v)) late its j few h u e =
+          by_followed (late_answer_followed here_alone on channel side v late its j (omega (arith, few)) h u) e
+      in_late on channel side between late its j few h u e = absurd (no_phase between u.value (λ f. cc) (λ f. cc) u.phase)
+      in_late on channel side (awaits_ack opens) late its j few h u e = absurd (no_phase (awaits_ack opens) u.value (λ f. cc) (λ f. cc) u.phase)
+      in_late on channel side (awaits_ack closes) late its j few h u e = absurd (no_phase (awaits_ack closes) u.value (λ f. cc) (λ f. cc) u.phase)
+      in_late on channel side checks_end late its j few h u e = absurd (no_phase checks_end u.value (λ f. cc) (λ f. cc) u.phase)
+      in_late on channel side sends_ack late its j few h u e = absurd (no_phase sends_ack u.value (λ f. cc) (λ f. cc) u.phase)
+      in_late on channel side was_closed late its j few h u e = absurd (no_phase was_closed u.value (λ f. cc) (λ f. cc) u.phase)
+      in_late on channel side streams late its j few h u e = absurd (no_phase streams u.value (λ f. cc) (λ f. cc) u.phase)
+
+      -- by whether it is
+      by_late : branch.mode ≡ runs → (transfer : Transfer) → r.transfer ≡ Some transfer → (j : ℕ) →
+          steps_left transfer.phase + j + cost_behind g r transfer.late ≤ stand.left → (h : InTransfer g r transfer branch.items j alone) →
+          LeftTo transfer h.pos branch.items x.state → Leaves (slot (home g r) a r.thread) → Goal
+      by_late on transfer its j few h (on_time none_late goes) e =
+          in_transfer on transfer.channel transfer.side transfer.phase (its ∙ ap (λ l. Some (record transfer { late = l })) none_late) j
+          (subst (λ l. steps_left transfer.phase + j + cost_behind g r l ≤ stand.left) none_late few)
+          (record {
+            pos = h.pos;
+            left = on_time refl goes;
+            stands_in = h.stands_in;
+            no_hand = h.no_hand;
+            pc = h.pc;
+            regs = h.regs;
+            here = h.here;
+            steps = h.steps;
+            fits = h.fits;
+            has = h.has;
+          }) goes e
+      by_late on transfer its j few h (unput u) e = in_late on transfer.channel transfer.side transfer.phase transfer.late its j few h u e
 
       -- outside of one
       err_goal : r.transfer ≡ None → Errs g r alone → Leaves (slot (home g r) a r.thread) → Goal
@@ -325,11 +354,8 @@ module _ (moment : Moment none_rests)
     by_transfer running None out (inr (inl (j, few, h))) e = by_resuming running out j few h e
     by_transfer running None out (inr (inr h)) e = absurd h
     by_transfer running (Some transfer) its (j, few, h) e =
-        let on_time : transfer ≡ in_phase transfer.channel transfer.side transfer.phase = ap
-        (λ l. record transfer { late = l }) h.on_time in
         let h' = subst (λ k. InTransfer g r transfer branch.items j (record { core = a; world = x.state; hand = k })) h.no_hand h in
-        in_transfer h.no_hand running transfer.channel transfer.side transfer.phase (its ∙ ap Some on_time) j few
-        (subst (λ k. InTransfer g r k branch.items j (alone h.no_hand)) on_time h') e
+        by_late h.no_hand running transfer its j few h' h'.left e
 
     by_mode : (mode : Mode) → branch.mode ≡ mode → ProgressBy g r false branch.items mode stand.left now → Leaves (slot (home g r) a r.thread) → Goal
     by_mode runs is_running h e = by_transfer is_running r.transfer refl h e

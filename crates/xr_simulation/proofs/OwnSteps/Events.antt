@@ -14,6 +14,7 @@ use Rattle.xc_invariants.specs.Tree.{IsWaiting}
 use Rattle.xc_meaning.specs.Counts.Families.{steps_of}
 use Rattle.xc_meaning.specs.Runs.{acts_all}
 use Rattle.xc_meaning.specs.States.Branches.{Branch, runs, waits, ended, has_ended}
+use Rattle.xc_meaning.specs.States.Channels.{Parcel}
 use Rattle.xc_meaning.specs.States.Items.{Item}
 use Rattle.xc_meaning.specs.States.Worlds.{World, Action}
 use Rattle.xc_meaning.specs.Uses.{by_item, by_items}
@@ -27,8 +28,8 @@ use Rattle.xr_simulation.specs.Parents.{Parent, branches_of}
 use Rattle.xr_simulation.specs.Roles.{IsParent, ParentsWait, Role, Roles, got_by, own_branches, used_by}
 use Rattle.xr_simulation.specs.Runners.{Footprint, Runner, Setting, footprint_of}
 use Rattle.xr_simulation.specs.ThreadViews.{Guarantee, giving_back}
-use Rattle.xr_simulation.specs.MatchStates.{AreLoose, IsMade, IsRun, RunsBranch, ThreadRel, counts, living_on, none_rests}
-use Rattle.xr_simulation.specs.Transfers.{Transfer}
+use Rattle.xr_simulation.specs.MatchStates.{AreLoose, IsMade, IsRun, MatchStates, RunsBranch, ThreadRel, counts, living_on, none_rests}
+use Rattle.xr_simulation.specs.Transfers.{Transfer, spared, spared_with}
 use Rattle.xr_simulation.specs.NextStep.{HoldsStore, IsNext, PortsStand, first_changes}
 use Rattle.xr_simulation.specs.Wired.{AreWired, HasAlone}
 use Rattle.xr_simulation.proofs.Channels.OwnSide.{alone_behind}
@@ -49,11 +50,20 @@ use Rattle.xc_kernel.specs.Eval.{words_of}
 use Rattle.xc_kernel.specs.Things.{change}
 
 -- a step of the family pays for the silent steps behind it
-pub bound_grows : (most greatest steps left j further actions more : ℕ) → most ≡ 8 * (greatest + 16) → steps + left ≤ most * (actions + 1) → j ≤ left → further ≤ j + 1 + (8 * greatest + 8) → 1 ≤ more → steps + 1 + further ≤ most * (actions + more + 1)
+pub bound_grows : (most greatest steps left j further actions more : ℕ) → most ≡ 8 * (greatest + 16) → steps + left ≤ most * (actions + 1) → j ≤ left → further ≤ j + 1 + (8 * greatest + 8) → 1 ≤ more → steps + 1 + (further + 3) ≤ most * (actions + more + 1)
 bound_grows most greatest steps left j further actions more is bound few enough some =
     let le : actions + 1 + 1 ≤ actions + more + 1 = omega arith in
     let grown = mul-le-mul_left most le in
     omega (arith, grown)
+
+-- no more than three steps are spared
+pub spared_few : (o : Option Transfer) → spared o ≤ 3
+spared_few None = omega arith
+spared_few (Some transfer) = by transfer.late
+  where
+    by : (late : List Parcel) → spared_with late ≤ 3
+    by [] = omega arith
+    by (p ∷ ps) = omega arith
 
 -- one that waits isn't one that runs
 pub parent_waits : (g : Setting) (x : World) (core family first : ℕ) (ps : List Parent) (n : ℕ) → ParentsWait g x core family ps first → IsAmong (branches_of ps) n → (branch : Branch) × (slice_get x.branches n ≡ Some branch) × IsWaiting branch.mode
@@ -244,7 +254,7 @@ module _ {moment : Moment none_rests} (thread_at : ThreadAt moment None)
   }
 
   -- no branch is made
-  own_goes : Goes g x (told_by g.program g.stimulus x piece e.world)
+  pub own_goes : Goes g x (told_by g.program g.stimulus x piece e.world)
   own_goes = told_one g x piece e.world r.branch e.branch e.next e.known e.birth e.is_next.branches
 
   -- the core behind the step, and its other threads
@@ -267,7 +277,7 @@ module _ {moment : Moment none_rests} (thread_at : ThreadAt moment None)
     abbrev pub s : Runner
     s = record r { footprint = footprint_of e.next.items; transfer = e.transfer }
 
-    abbrev who_on : Roles
+    abbrev pub who_on : Roles
     who_on = with_role who c t (used_by s None)
 
     seated : IsSeated s r
@@ -416,16 +426,11 @@ module _ {moment : Moment none_rests} (thread_at : ThreadAt moment None)
           (alone transfer (ap (λ (k : Runner). k.transfer) same ∙ its))
 
       -- so the two sides stand so again behind it
-      pub event_follows : Follows g may_rest' who w x w'
-      event_follows =
+      pub event_stands : MatchStates g may_rest' who_on w' (told_by g.program g.stimulus x piece e.world)
+      event_stands =
           let o = only_thread t in
           let self = eq-eqb t t refl in
-          record {
-            who = who_on;
-            piece = piece;
-            world = e.world;
-            acted = all_acted;
-            standing = answered thread_at o self e.left e.world own_effect may_rest' who_on w' piece event.stepped
+          answered thread_at o self e.left e.world own_effect may_rest' who_on w' piece event.stepped
                 (record {
                   acted = all_acted;
                   clocks = event.clocks;
@@ -451,12 +456,20 @@ module _ {moment : Moment none_rests} (thread_at : ThreadAt moment None)
                   placed = own_placed;
                   run = run_on;
                   made = own_made;
-                });
-            named = event.named;
-          }
+                })
         where
           false_true : false ≡ true → ⊥
           false_true f = cc
+
+      pub event_follows : Follows g may_rest' who w x w'
+      event_follows = record {
+        who = who_on;
+        piece = piece;
+        world = e.world;
+        acted = all_acted;
+        standing = event_stands;
+        named = event.named;
+      }
 
     pub goes_on_answered : AreWired g who_on watched_on.machine e.world →
         ((transfer : Transfer) → e.transfer ≡ Some transfer → HasAlone e.world.branches transfer.channel transfer.side r.branch) →

@@ -658,8 +658,8 @@ module _ {moment : Moment none_rests} (thread_at : ThreadAt moment None)
       left = 1 + j + cost g maker;
       bound =
           let life : (watched'.lives c t).steps ≡ (w.lives c t).steps + 1 = ap (λ (l : Life). l.steps) (own_life w watched'.machine c t) in
-          subst (λ s. s + (1 + j + cost g maker) ≤ kernel_bound g.program * ((told_by g.program g.stimulus x piece world).actions r.family + 1)) (sym life)
-          (bound_grows (kernel_bound g.program) (greatest_count g.program) (w.lives c t).steps stand.left j (1 + j + cost g maker) (x.actions r.family) (steps_of g.program g.stimulus r.family (Some x.state) piece) refl stand.bound few (omega arith) counts_one);
+          subst (λ s. s + (1 + j + cost g maker + 3) ≤ kernel_bound g.program * ((told_by g.program g.stimulus x piece world).actions r.family + 1)) (sym life)
+          (bound_grows (kernel_bound g.program) (greatest_count g.program) (w.lives c t).steps stand.left j (1 + j + cost g maker) (x.actions r.family) (steps_of g.program g.stimulus r.family (Some x.state) piece) refl (let old = stand.bound in omega (arith, old)) few (omega arith) counts_one);
       by = inr (inl (j, omega arith, subst (λ items. GivesBack g maker items j (record { core = left; world = world; hand = giving_back n })) (sym chain.0.items) gives'));
     }
 

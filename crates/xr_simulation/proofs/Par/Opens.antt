@@ -666,7 +666,7 @@ module _ {moment : Moment none_rests} {hand : Option Acquired} (thread_at : Thre
         bound =
             let life = kid_life u (held_not_own u within.0) within.0 in
             let grown = at_least (kernel_bound g.program) ((told_by g.program g.stimulus x piece world).actions (from + i)) in
-            subst (λ s. s + cost g (kid i u) ≤ kernel_bound g.program * ((told_by g.program g.stimulus x piece world).actions (from + i) + 1)) (sym life) (omega (arith, grown));
+            subst (λ s. s + (cost g (kid i u) + 3) ≤ kernel_bound g.program * ((told_by g.program g.stimulus x piece world).actions (from + i) + 1)) (sym life) (omega (arith, grown));
         by = subst (λ m. ProgressBy g (kid i u) true branch.items m (cost g (kid i u)) (record { core = left; world = world; hand = None })) (sym new.mode)
             (inr (inr (0, omega arith, refl, subst (λ its. Rest g (kid i u) its 0 (record { core = left; world = world; hand = None })) (sym new.items) rest)));
       })
@@ -756,8 +756,8 @@ module _ {moment : Moment none_rests} {hand : Option Acquired} (thread_at : Thre
           bound =
               let life : (watched'.lives c t).steps ≡ (w.lives c t).steps + 1 = ap (λ (l : Life). l.steps) (own_life w watched'.machine c t) in
               let fewer = b.fewer in
-              subst (λ s. s + (b.jumps + cost g own) ≤ kernel_bound g.program * ((told_by g.program g.stimulus x piece world).actions r.family + 1)) (sym life)
-              (bound_grows (kernel_bound g.program) (greatest_count g.program) (w.lives c t).steps stand.left j (b.jumps + cost g own) (x.actions r.family) (steps_of g.program g.stimulus r.family (Some x.state) piece) refl stand.bound few (omega (arith, fewer)) (counts_one stand.family));
+              subst (λ s. s + (b.jumps + cost g own + 3) ≤ kernel_bound g.program * ((told_by g.program g.stimulus x piece world).actions r.family + 1)) (sym life)
+              (bound_grows (kernel_bound g.program) (greatest_count g.program) (w.lives c t).steps stand.left j (b.jumps + cost g own) (x.actions r.family) (steps_of g.program g.stimulus r.family (Some x.state) piece) refl (let old = stand.bound in omega (arith, old)) few (omega (arith, fewer)) (counts_one stand.family));
           by = subst (λ m. ProgressBy g own true branch.items m (b.jumps + cost g own) (record { core = left; world = world; hand = None })) (sym new.mode)
               (inr (inr (b.jumps, omega arith, refl, subst (λ its. Rest g own its b.jumps (record { core = left; world = world; hand = None })) (sym new.items) rest)));
         })

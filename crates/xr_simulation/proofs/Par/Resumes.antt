@@ -19,6 +19,7 @@ use Rattle.xl_expr.proofs.ResourceParts.{others_same}
 use Rattle.xl_par.specs.Acquired.{Acquired, IsAmong}
 use Rattle.xr_match.specs.Lives.{Life, Watched}
 use Rattle.xr_match.specs.Systems.{SomeIs}
+use Rattle.xr_simulation.specs.Transfers.{spared}
 use Rattle.xr_simulation.specs.Parents.{Parent, syncs_of}
 use Rattle.xr_simulation.specs.Roles.{AreRoles, AreUsedSo, IsParent, Role, Roles, empty, got_by, unused, used_by}
 use Rattle.xr_simulation.specs.Runners.{Runner, home}
@@ -278,7 +279,7 @@ module _ {moment : Moment none_rests} {n : ℕ} (thread_at : ThreadAt moment (gi
           let old = stand.bound in
           let life : (watched'.lives c t).steps ≡ (w.lives c t).steps + 1 = ap (λ (l : Life). l.steps) (own_life w watched'.machine c t) in
           let none : x.actions r.family + 0 ≡ x.actions r.family = omega arith in
-          subst (λ m. (watched'.lives c t).steps + (j + cost g r) ≤ kernel_bound g.program * (m + 1)) (sym none) (omega arith);
+          subst (λ m. (watched'.lives c t).steps + (j + cost g r + spared r.transfer) ≤ kernel_bound g.program * (m + 1)) (sym none) (omega arith);
       by = subst (λ m. ProgressBy g r true branch.items m (j + cost g r) (record { core = left; world = x.state; hand = None })) (sym mode)
           (subst (λ o. ProgressWith g r true o branch.items (j + cost g r) (record { core = left; world = x.state; hand = None })) (sym none) (inr (inr (j, omega arith, refl, rest'))));
     }

@@ -39,13 +39,14 @@ use Rattle.xr_simulation.proofs.ItemCode.Evaluations.{item_acts}
 use Rattle.xr_simulation.proofs.Relation.Moments.{Moment, ThreadAt}
 use Rattle.xr_simulation.proofs.Relation.CoreSteps.{works_at}
 use Rattle.xr_simulation.proofs.Channels.PieceStarts.{piece_channel, piece_uses}
-use Rattle.xr_simulation.proofs.Quiet.Sides.{IsStuck, awaiting_sent, checks_wait, each_stuck, nothing_moves, sends_wait, word_waits}
+use Rattle.xr_simulation.proofs.Quiet.Sides.{IsStuck, awaiting_sent, checks_wait, each_stuck, goes_on_time, nothing_moves, sends_wait, word_waits}
 use Rattle.xr_simulation.proofs.Channels.TransferBegins as begins
 use Rattle.xr_simulation.proofs.Channels.TransferBegins.{core_there, line_there, spot_there}
-use Rattle.xr_simulation.proofs.Channels.Wiring.{wired_inside}
+use Rattle.xr_simulation.proofs.Channels.Wiring.{late_inside, wired_inside}
 use Rattle.xr_channels.specs.Phases.{Phase, awaits_ack, between, checks_end, closes, offers, opens, sends_ack, sends_end, side_state, streams, was_closed}
 use Rattle.xr_channels.specs.Channels.{Ghosts}
 use Rattle.xr_channels.proofs.All.Frames.{parcels}
+use Rattle.xr_channels.proofs.All.OverLinks.{quiet_on_time}
 use Rattle.xr_channels.proofs.All.QuietPauses.{Goes, QuietEnd, chkct_ack_paused, chkct_end_paused, in_paused}
 use Rattle.xr_channels.proofs.All.QuietPlain.{has_credit, has_credits, nothing_came, nothing_owed}
 use Rattle.xr_channels.proofs.Sides.Plain.{IsPlain}
@@ -229,7 +230,7 @@ module _ (moment : Moment none_rests)
     -- Inside a transfer the branch waits for an answer, and nothing is in the inbox; the other steps go on.
     pub inside_cannot : (transfer : Transfer) → r.transfer ≡ Some transfer → (items : List Item) (j : ℕ) →
         InTransfer g r transfer items j view → CannotAct g r x.state
-    inside_cannot transfer its items j h = by transfer.phase h.goes_with h.steps
+    inside_cannot transfer its items j h = by transfer.phase (goes_on_time transfer h.pos items x.state late_now h.left) h.steps
         (wired_inside g who w.machine x.state st.wired c t line r hand transfer runs_r its is_line)
       where
         channel : ℕ
@@ -246,6 +247,12 @@ module _ (moment : Moment none_rests)
 
         is_line : IsLine g.program line channel
         is_line = at.1
+
+        late_now : transfer.late ≡ []
+        late_now =
+            sym (late_inside g who w.machine x.state st.wired c t line r hand transfer runs_r its is_line)
+            ∙ quiet_on_time g.image.chans is.lines.wired w.machine.cores w.machine.links boxes ghosts st.wired.over (nothing_moves moment quiet)
+            line (pair_of g.program channel) (other_side side) (is.lines.line line channel is_line)
 
         sends_one : (f : Phase) → IsPlain f → ghosts.side_states line side ≡ side_state f false → (n : ℕ) → Acts (home g r) r.thread (end_place g r channel side) (running r.tie h.pc h.regs) h.pos (sends (control_token n ∷ [])) h.pc h.regs → ⊥
         sends_one f plain spot_is n acts =

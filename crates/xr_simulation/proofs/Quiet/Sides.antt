@@ -13,8 +13,9 @@ use Rattle.xs_instr.specs.Ends.{NotYet, control_token, take_word}
 use Rattle.xs_instr.specs.Machine.{link_of}
 use Rattle.xs_instr.specs.Rows.{gets_with, goes_with, put_ends}
 use Rattle.xc_meaning.specs.States.Branches.{Branch, Mode, ended, erred, runs, waits}
-use Rattle.xc_meaning.specs.States.Channels.{Inboxes, Side, other_side}
+use Rattle.xc_meaning.specs.States.Channels.{Inboxes, Parcel, Side, other_side}
 use Rattle.xc_meaning.specs.States.Items.{Item}
+use Rattle.xc_meaning.specs.States.Worlds.{World}
 use Rattle.xl_chan.specs.Protocols as protocol
 use Rattle.xl_chan.specs.Protocols.{Act, Acts, sends, takes_word}
 use Rattle.xl_image.specs.Images.{pair_of}
@@ -26,17 +27,18 @@ use Rattle.xr_simulation.specs.Runners.{Runner, end_place, home}
 use Rattle.xr_simulation.specs.ThreadViews.{ThreadView, running}
 use Rattle.xr_simulation.specs.MatchStates.{RunsBranch, ProgressBy, ProgressWith, none_rests}
 use Rattle.xr_simulation.specs.Transfers.{GoesWith, IsAwaiting, StopsIn, Transfer, acts_left, items_behind}
-use Rattle.xr_simulation.specs.NextStep.{IsBehind, TakesSteps}
+use Rattle.xr_simulation.specs.NextStep.{IsBehind, LeftTo, TakesSteps, on_time, unput}
 use Rattle.xr_simulation.specs.Wired.{IsLine, IsTransferring, SideIs, idle, boxes_in, in_transfer}
 use Rattle.xr_simulation.proofs.Channels.Ends.{acts_there, end, end_is, quiet_end}
 use Rattle.xr_simulation.proofs.Relation.Moments.{Moment, ThreadAt, thread_of}
 use Rattle.xr_simulation.proofs.Relation.CoreSteps.{core_of as the_core, stands_at}
 use Rattle.xr_simulation.proofs.Quiet.Slots.{lacks_credits, lacks_tokens, lacks_word}
-use Rattle.xr_simulation.proofs.Channels.Wiring.{wired_inside}
+use Rattle.xr_simulation.proofs.Channels.Wiring.{late_inside, wired_inside}
 use Rattle.xr_simulation.proofs.OwnSteps.Branch.{some_is}
 use Rattle.xr_channels.specs.Phases.{Direction, Phase, SideState, awaits_ack, between, checks_end, closes, offers, opens, sends_ack, sends_end, side_state, streams, unsent, was_closed}
 use Rattle.xr_channels.specs.Channels.{Ghosts, end_of_side}
 use Rattle.xr_channels.proofs.All.QuietPauses.{Goes, MayGo, QuietEnd, goes}
+use Rattle.xr_channels.proofs.All.OverLinks.{quiet_on_time}
 use Rattle.xr_channels.proofs.Laws.AnyDistance.{no_move_is_quiet}
 use Rattle.xr_channels.proofs.All.Pauses.{Enabled, may_answer, may_check, may_check_end, may_close, may_end}
 use Rattle.xr_channels.proofs.Sides.Plain.{IsPlain}
@@ -82,6 +84,15 @@ none_between f l n is (may_check q _ _ h) = cc
 none_between f l n is (may_check_end _ _ h) = cc
 none_between f l n is (may_answer _ _ h) = cc
 none_between f l n is (may_close _ _ h) = cc
+
+-- where nothing is late, what is left goes with the phase
+pub goes_on_time : (transfer : Transfer) (pos : Pos) (items : List Item) (x : World) → transfer.late ≡ [] → LeftTo transfer pos items x →
+    GoesWith transfer.phase transfer.channel pos items
+goes_on_time transfer pos items x none (on_time nothing goes) = goes
+goes_on_time transfer pos items x none (unput u) = absurd (not_empty (sym none ∙ u.late))
+  where
+    not_empty : {p : Parcel} → ◌≡◌ {A = List Parcel} [] (p ∷ []) → ⊥
+    not_empty e = cc
 
 module _ (moment : Moment none_rests)
     (quiet : IsQuietMachine moment.setting.image moment.setting.stimulus moment.watched.machine) where
@@ -180,15 +191,25 @@ module _ (moment : Moment none_rests)
     abbrev now : ThreadView
     now = record { core = a; world = x.state; hand = hand }
 
+    -- nothing is late behind it
+    late_now : transfer.late ≡ []
+    late_now =
+        sym (late_inside g who w.machine x.state st.wired d u line r hand transfer runs_r its is_line)
+        ∙ quiet_on_time g.image.chans is.lines.wired w.machine.cores w.machine.links boxes ghosts st.wired.over nothing_moves line
+        (pair_of g.program transfer.channel) (other_side transfer.side) (is.lines.line line transfer.channel is_line)
+
     -- one that goes on waits
     stuck_inside : (items : List Item) (left : ℕ) → ProgressWith g r false (Some transfer) items left now → IsStuck line transfer.channel transfer.side
     stuck_inside items left (j, few, h) = record {
       phase = transfer.phase;
-      plain = plain_where_goes transfer.phase transfer.channel h.pos items h.goes_with;
+      plain = plain_where_goes transfer.phase transfer.channel h.pos items (goes_with h.left);
       spot_is = spot_now;
       stuck = inr (none_enabled (thread_of moment d u a at_d r hand runs_r) transfer.channel transfer.side line is_line on_core h.pos h.pc
-          h.regs h.here transfer.phase items (IsBehind g r (items_behind transfer.phase items) j) h.goes_with h.steps spot_now);
+          h.regs h.here transfer.phase items (IsBehind g r (items_behind transfer.phase items) j) (goes_with h.left) h.steps spot_now);
     }
+      where
+        goes_with : LeftTo transfer h.pos items x.state → GoesWith transfer.phase transfer.channel h.pos items
+        goes_with left = goes_on_time transfer h.pos items x.state late_now left
 
     -- one that has trapped awaited an answer
     stuck_trapped : StopsIn (Some transfer) → IsStuck line transfer.channel transfer.side

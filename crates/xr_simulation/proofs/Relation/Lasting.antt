@@ -21,7 +21,7 @@ use Rattle.xr_match.specs.Sources.{Counted}
 use Rattle.xr_match.specs.Systems.{SomeIs}
 use Rattle.xr_simulation.specs.Living.{AreNamed}
 use Rattle.xr_simulation.specs.Parents.{Parent, branches_of}
-use Rattle.xr_simulation.specs.Roles.{ParentWaits, ParentsWait, Roles, used_by}
+use Rattle.xr_simulation.specs.Roles.{AcquiredFits, ParentWaits, ParentsWait, Roles, used_by}
 use Rattle.xr_simulation.specs.Runners.{Setting, Runner}
 use Rattle.xr_simulation.specs.ThreadViews.{IsStable, Rely, ThreadView}
 use Rattle.xr_simulation.specs.MatchStates.{HasEnded, HasThread, IfTrue, IsAtRest, IsOnItsWay, IsResuming, RunsBranch, MatchStates, ThreadRel, ProgressBy, ProgressWith}
@@ -184,3 +184,22 @@ module _ (g : Setting) (r : Runner) where
 -- the program's clock of a core
 pub clock_at : (g : Setting) (may_rest : (core thread : ℕ) → Bool) (who : Roles) (w : Watched) (x : Counted (of_kernel g.program)) (c : ℕ) (a : CoreState) → MatchStates g may_rest who w x → slice_get w.machine.cores c ≡ Some a → slice_get x.state.clocks c ≡ Some a.clock
 clock_at g may_rest who w x c a st at_c = rw (← st.clocks, slice_get-map, at_c)
+
+-- the same stand, where what is in hand is the same
+abbrev pub stand_as : (g : Setting) (r : Runner) (rests : Bool) (hand hand' : Option Acquired) (a : CoreState) (x : World) (life : Life) (actions : ℕ → ℕ) (branch : Branch) → hand ≡ hand' → RunsBranch g r rests hand a x life actions branch → RunsBranch g r rests hand' a x life actions branch
+stand_as g r rests hand hand' a x life actions branch e h = record {
+  core = h.core;
+  family = h.family;
+  footprint = h.footprint;
+  parents = h.parents;
+  thread = h.thread;
+  in_hand = subst (AcquiredFits branch.items) e h.in_hand;
+  sides = h.sides;
+  inside = h.inside;
+  done = h.done;
+  stops = h.stops;
+  ends_tied = h.ends_tied;
+  left = h.left;
+  bound = h.bound;
+  by = subst (λ k. ProgressBy g r rests branch.items branch.mode h.left (record { core = a; world = x; hand = k })) e h.by;
+}

@@ -483,8 +483,7 @@ module _ (g : Setting) (r : Runner) (items : List Item) (less : IsWithin (footpr
       InTransfer g (shrunk r items) transfer items j z
   transfer_shrinks transfer j z h = record {
     pos = h.pos;
-    on_time = h.on_time;
-    goes_with = h.goes_with;
+    left = h.left;
     stands_in = h.stands_in;
     no_hand = h.no_hand;
     pc = h.pc;

@@ -3,6 +3,7 @@ use Rattle.std.proofs.Common.{◌≡◌, ◌≢◌, ℕ, zero, suc, ◌+◌, ◌
 use Rattle.std.specs.Prelude.{slice_get}
 use Rattle.std.proofs.lemmas.Bool.{and_from, or_left, or_right, cases_eq}
 use Rattle.std.proofs.lemmas.Option.{slice_get_within}
+use Rattle.xw_words.specs.declared.pos.Pos.{Pos}
 use Rattle.xs_instr.specs.declared.state.Regs.{Regs}
 use Rattle.xs_instr.specs.OwnSteps.{HasRoom, IsApart, RunsAt, temporary}
 use Rattle.xs_instr.specs.declared.state.Res.{Res}
@@ -17,14 +18,15 @@ use Rattle.xl_expr.specs.Plans.{var_in, joined}
 use Rattle.xl_expr.specs.Works.{IsLaid, PlaceIsLaid}
 use Rattle.xl_expr.proofs.Framed.{framed_laid, framed_place}
 use Rattle.xl_expr.proofs.Lists.{room_kept}
-use Rattle.xr_simulation.specs.Fits.{Uses, UsesAt}
+use Rattle.xr_simulation.specs.Fits.{ItemsFit, Uses, UsesAt}
 use Rattle.xr_simulation.specs.Runners.{HoldsPlaces, Activation, Setting, Runner, IsLaidOut, IsPort, is_among_words, is_word_among, is_word_at, is_word_of, outside, places, plan, plan_in, port_place, relied}
 use Rattle.xr_simulation.specs.ThreadViews.{ThreadView, IsStable, Rely, running}
 use Rattle.xr_simulation.specs.MatchStates.{IsAtRest, IsOnItsWay, IsResuming, IsTransferring}
 use Rattle.xr_simulation.specs.Transfers.{Transfer}
-use Rattle.xr_simulation.specs.NextStep.{GivesBack, HasBases, HoldsStore, Has, InTransfer, IsAt, PortsStand, Rest, Runs, StableNextStep}
+use Rattle.xr_simulation.specs.NextStep.{GivesBack, HasBases, HoldsStore, Has, InTransfer, IsAt, LeftTo, on_time, unput, PortsStand, Rest, Runs, StableNextStep}
 use Rattle.xr_simulation.proofs.RelyGuarantee.ThreadViews.{leads_in_stable, turns_stable}
 use Rattle.xr_simulation.proofs.RelyGuarantee.Arrival.{Since, among_words, any_part, ports_kept, ports_since, stack_relied}
+use Rattle.xr_simulation.proofs.ItemCode.Evaluations.{eval_still}
 use Rattle.xr_simulation.proofs.RelyGuarantee.Stands.{stands_last}
 
 -- a variable of a plan is one of the list
@@ -154,12 +156,29 @@ module _ (g : Setting) (r : Runner) where
   pub at_rest_stable : (items : List Item) (most : ℕ) → IsStable g r (IsAtRest g r items most)
   at_rest_stable items most z y k h = (h.0, h.1, k.hand ∙ h.2, rest_kept items h.0 z y k h.3)
 
+  -- an offer that isn't put yet has the value that it had
+  left_stable : (transfer : Transfer) (pos : Pos) (items : List Item) (z y : ThreadView) → Rely g r z y → ItemsFit g r items →
+      LeftTo transfer pos items z.world → LeftTo transfer pos items y.world
+  left_stable transfer pos items z y k fits (on_time none goes) = on_time none goes
+  left_stable transfer pos items z y k fits (unput u) =
+      let its = subst (ItemsFit g r) u.items_are fits in
+      unput (record {
+        output = u.output;
+        value = u.value;
+        rest = u.rest;
+        late = u.late;
+        phase = u.phase;
+        items_are = u.items_are;
+        on_channel = u.on_channel;
+        place = u.place;
+        ready = eval_still (plan g r).vars r.footprint.uses z.world.store y.world.store k.store u.output.value its.0.0.value ∙ u.ready;
+      })
+
   -- one inside a transfer is so still
   pub transfer_stable : (transfer : Transfer) (items : List Item) (j : ℕ) → IsStable g r (InTransfer g r transfer items j)
   transfer_stable transfer items j z y k h = record {
     pos = h.pos;
-    on_time = h.on_time;
-    goes_with = h.goes_with;
+    left = left_stable transfer h.pos items z y k h.fits h.left;
     stands_in = h.stands_in;
     no_hand = k.hand ∙ h.no_hand;
     pc = h.pc;

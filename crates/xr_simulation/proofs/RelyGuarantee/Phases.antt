@@ -56,8 +56,7 @@ module _ (g : Setting) (r : Runner) (transfer : Option Transfer) where
       InTransfer g r which items j z → InTransfer g s which items j z
   inside_as which items j z same h = record {
     pos = h.pos;
-    on_time = h.on_time;
-    goes_with = h.goes_with;
+    left = h.left;
     stands_in = h.stands_in;
     no_hand = h.no_hand;
     pc = h.pc;

@@ -19,6 +19,7 @@ use Rattle.xl_par.specs.Acquired.{Acquired}
 use Rattle.xl_plan.specs.Layout.{core_of_port, port_number}
 use Rattle.xr_match.specs.Lives.{Life, Watched}
 use Rattle.xr_match.specs.Systems.{SomeIs}
+use Rattle.xr_simulation.specs.Transfers.{spared}
 use Rattle.xr_simulation.specs.Living.{AreNamed}
 use Rattle.xr_simulation.specs.Roles.{AreRoles, AreUsedSo, AcquiredFits, Roles, got_by, used_by}
 use Rattle.xr_simulation.specs.Runners.{HoldsPlaces, Setting, Runner, IsLaidOut, IsPort, MayChange, anyone, of_stack, of_variable, places, port_place}
@@ -196,7 +197,7 @@ module _ {moment : Moment none_rests} {hand : Option Acquired} {thread_at : Thre
           let old = stand.bound in
           let same : x.actions r.family + 0 ≡ x.actions r.family = omega arith in
           let life : (silent_watched.lives c t).steps ≡ (w.lives c t).steps + 1 = ap (λ (l : Life). l.steps) (own_life w silent_watched.machine c t) in
-          subst (λ m. (silent_watched.lives c t).steps + left ≤ kernel_bound g.program * (m + 1)) (sym same) (omega arith);
+          subst (λ m. (silent_watched.lives c t).steps + (left + spared r.transfer) ≤ kernel_bound g.program * (m + 1)) (sym same) (omega arith);
       by = by;
     }
 

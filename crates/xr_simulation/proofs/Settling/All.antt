@@ -179,9 +179,9 @@ module _ (g : Setting) (first : Roles) (is : IsImageOf g first) (w : Watched) wh
 
   -- one piece after another
   pub follows_after : (may_rest' : (core thread : ℕ) → Bool) (old who : Roles) (before : Watched) (x : Counted (of_kernel g.program)) (piece : List Action) (y : World) → acts_all g.program g.stimulus (Some x.state) piece ≡ Some y →
-      (AreNamed g old before x → AreNamed g who w (told_by g.program g.stimulus x piece y)) →
-      Follows g may_rest' who w (told_by g.program g.stimulus x piece y) w → Follows g may_rest' old before x w
-  follows_after may_rest' old who before x piece y acted named q = record {
+      (between : Watched) → (AreNamed g old before x → AreNamed g who between (told_by g.program g.stimulus x piece y)) →
+      Follows g may_rest' who between (told_by g.program g.stimulus x piece y) w → Follows g may_rest' old before x w
+  follows_after may_rest' old who before x piece y acted between named q = record {
     who = q.who;
     piece = piece ++ q.piece;
     world = q.world;
@@ -207,7 +207,7 @@ module _ (g : Setting) (first : Roles) (is : IsImageOf g first) (w : Watched) wh
       Settles g may_rest' q.follows.who w (told_by g.program g.stimulus x q.follows.piece q.follows.world) w → Settles g may_rest' old w x w
   unfolding follows_after
   settles_after may_rest may_rest' old x q next = record {
-    follows = follows_after may_rest' old q.follows.who w x q.follows.piece q.follows.world q.follows.acted q.follows.named next.follows;
+    follows = follows_after may_rest' old q.follows.who w x q.follows.piece q.follows.world q.follows.acted w q.follows.named next.follows;
     none_inside = λ none. next.none_inside (q.none_inside none);
   }
 
@@ -325,4 +325,4 @@ module _ (g : Setting) (first : Roles) (is : IsImageOf g first) (w : Watched) wh
 
   -- so behind an event, where threads of its core may be at rest
   pub settles_behind : (old : Roles) (before : Watched) (may_rest : (core thread : ℕ) → Bool) (x : Counted (of_kernel g.program)) (c : ℕ) → c < 4 → ((i u : ℕ) → i ≢ c → may_rest i u ≡ false) → Follows g may_rest old before x w → Follows g none_rests old before x w
-  settles_behind old before may_rest x c lt others q = follows_after none_rests old q.who before x q.piece q.world q.acted q.named (settles may_rest q.who (told_by g.program g.stimulus x q.piece q.world) c lt others q.standing).follows
+  settles_behind old before may_rest x c lt others q = follows_after none_rests old q.who before x q.piece q.world q.acted w q.named (settles may_rest q.who (told_by g.program g.stimulus x q.piece q.world) c lt others q.standing).follows

@@ -20,6 +20,7 @@ use Rattle.xl_par.specs.Acquired.{Acquired, IsAmong}
 use Rattle.xr_match.specs.Lives.{Watched}
 use Rattle.xr_match.specs.Meanings.{of_kernel}
 use Rattle.xr_match.specs.Sources.{Counted}
+use Rattle.xr_simulation.specs.Transfers.{spared}
 use Rattle.xr_simulation.specs.Fits.{FitOn}
 use Rattle.xr_simulation.specs.Parents.{Parent, sync_before, syncs_of}
 use Rattle.xr_simulation.specs.Roles.{AcquiredFits, IsOnce, ParentsWait, Roles, empty, unused, used_by}
@@ -90,9 +91,9 @@ module _ {may_rest : (core thread : ℕ) → Bool} {moment : Moment may_rest} {t
   all_fit : FitOn g r.core items
   all_fit = fits_everywhere g r items outermost_block h.fits
 
-  bound_behind : (piece : List Action) (y : World) (left : ℕ) → left ≤ stand.left → (w.lives c t).steps + left ≤ kernel_bound g.program * ((told_by g.program g.stimulus x piece y).actions r.family + 1)
+  bound_behind : (piece : List Action) (y : World) (left : ℕ) → left ≤ stand.left → (w.lives c t).steps + (left + spared r.transfer) ≤ kernel_bound g.program * ((told_by g.program g.stimulus x piece y).actions r.family + 1)
   bound_behind piece y left le =
-      bound_more (kernel_bound g.program) (w.lives c t).steps left (x.actions r.family) ((told_by g.program g.stimulus x piece y).actions r.family)
+      bound_more (kernel_bound g.program) (w.lives c t).steps (left + spared r.transfer) (x.actions r.family) ((told_by g.program g.stimulus x piece y).actions r.family)
       (let old = stand.bound in omega (arith, old, le)) (omega arith)
 
   -- 1. It comes on its way.

@@ -13,6 +13,7 @@ use Rattle.xc_meaning.specs.States.Items.{Item, awaits, chooses, does, ends, fix
 use Rattle.xc_meaning.specs.States.Worlds.{World}
 use Rattle.xl_par.specs.Acquired.{Acquired, IsAmong, one_if, nothing_acquired}
 use Rattle.xr_match.specs.Lives.{Life}
+use Rattle.xr_simulation.specs.Transfers.{spared}
 use Rattle.xr_simulation.specs.Roles.{AcquiredFits, IsOnce, ParentsWait, empty, opens}
 use Rattle.xr_simulation.specs.Runners.{Runner, Setting, footprint_of}
 use Rattle.xr_simulation.specs.ThreadViews.{held_in, running_so, sync_in}
@@ -86,7 +87,7 @@ bound_more most steps left actions more is le =
 pub resting : (g : Setting) (s : Runner) (may : Bool) (a : CoreState) (y : World) (life : Life) (more : ℕ → ℕ) (next : Branch) (j left : ℕ) → may ≡ true → next.core ≡ s.core → next.family ≡ s.family → s.footprint ≡ footprint_of next.items →
     ParentsWait g y s.core s.family s.parents s.branch → next.sides ≡ s.sides → next.inside ≡ s.inside → s.transfer ≡ None →
     next.mode ≡ runs → Rest g s next.items j (record { core = a; world = y; hand = None }) → j + cost g s ≤ left →
-    life.steps + left ≤ kernel_bound g.program * (more s.family + 1) →
+    life.steps + (left + spared s.transfer) ≤ kernel_bound g.program * (more s.family + 1) →
     RunsBranch g s may None a y life more next
 resting g s may a y life more next j left may_be core family footprint parents sides inside none mode rest few bound = record {
   core = core;

@@ -28,7 +28,7 @@ use Rattle.xr_simulation.specs.Runners.{Activation, Setting, Runner, IsPort, any
 use Rattle.xr_simulation.specs.Sizes.{sizes_of}
 use Rattle.xr_simulation.specs.ThreadViews.{ThreadView, giving_back, running}
 use Rattle.xr_simulation.specs.MatchStates.{AreLoose, HasThread, RunsBranch, MatchStates, ThreadRel, ProgressBy, ProgressWith}
-use Rattle.xr_simulation.specs.Transfers.{StopsIn}
+use Rattle.xr_simulation.specs.Transfers.{StopsIn, spared}
 use Rattle.xr_simulation.specs.NextStep.{HoldsNames, HoldsStore, IsFree, ItemsFrom, Rest, cost, is_watching}
 use Rattle.xr_simulation.proofs.Start.Boot.{boot_length, boot_port_at, boot_thread_at, boot_thread_free, set_at, set_core, set_length, set_regs, set_thread}
 use Rattle.xr_simulation.proofs.Relation.Reserves.{reserves_begin}
@@ -58,7 +58,7 @@ none_taken zero (suc m) e = cc
 none_taken (suc n) (suc m) e = none_taken n m e
 
 -- the steps to the first own instruction are within the bound
-start_bound : (most greatest actions : ℕ) → most ≡ 8 * (greatest + 16) → 2 + (8 * greatest + 8) ≤ most * (actions + 1)
+start_bound : (most greatest actions : ℕ) → most ≡ 8 * (greatest + 16) → 2 + (8 * greatest + 8 + 3) ≤ most * (actions + 1)
 start_bound most greatest actions is =
     let le : 1 ≤ actions + 1 = omega arith in
     let grown = mul-le-mul_left most le in
@@ -184,7 +184,10 @@ module _ (g : Setting) (who : Roles) (is : IsImageOf g who) where
       stops = λ f. subst StopsIn (sym h.is_root.no_transfer) tt;
       ends_tied = λ f. let both : runs ≡ ended = sym b.mode ∙ f in cc;
       left = cost g r;
-      bound = let within = start_bound (kernel_bound g.program) (greatest_count g.program) 0 refl in omega (arith, within, two);
+      bound =
+          let within = start_bound (kernel_bound g.program) (greatest_count g.program) 0 refl in
+          let three = ap spared h.is_root.no_transfer in
+          omega (arith, within, two, three);
       by = subst (λ m. ProgressBy g r true branch.items m (cost g r) z) (sym b.mode)
           (subst (λ o. ProgressWith g r true o branch.items (cost g r) z) (sym h.is_root.no_transfer) (inr (inr (0, omega arith, refl, subst (λ l. Rest g r l 0 z) (sym b.items) (rest_of branch known b)))));
     }
