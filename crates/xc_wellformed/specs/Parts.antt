@@ -1,4 +1,4 @@
--- How many nodes of expressions, places, exits, branches, inputs, variables to set to 0 and words of these code has.
+-- How many nodes of expressions, places, exits, branches, inputs, selects, variables to set to 0 and words of these code has.
 use Rattle.std.specs.Prelude.{ℕ, ◌+◌, ◌≤◌, List, [], ◌∷◌, Option, Some, None, slice_get}
 use Rattle.xc_kernel.specs.declared.kernel.Var.{Var}
 use Rattle.xc_kernel.specs.Plain as kernel
@@ -56,7 +56,7 @@ module _ (vs : List Var) where
     of_statement (kernel.loop e a b) = of_expression e + of_statements a + of_statements b
     of_statement (kernel.block n a) = of_statements a
     of_statement (kernel.exit n) = 1
-    of_statement (kernel.select cs d pos) = of_cases cs + of_default d
+    of_statement (kernel.select cs d pos) = of_cases cs + of_default d + 1
     of_statement (kernel.par bs) = of_branches bs
     of_statement (kernel.transaction c is_master a start close) = of_statements a
 
@@ -64,7 +64,7 @@ module _ (vs : List Var) where
     of_statements kernel.no_more = 0
     of_statements (kernel.more s ss) = of_statement s + of_statements ss
 
-    -- a case is 1 by its input, and so are a `default`, a branch and an exit
+    -- a case is 1 by its input, and so are a `select`, a `default`, a branch and an exit
     pub of_cases : kernel.Cases → ℕ
     of_cases kernel.no_case = 0
     of_cases (kernel.more_cases (kernel.case guard i a) cs) =

@@ -1,5 +1,5 @@
 -- A core needs an end for each side of a channel that is there.
-use Rattle.std.proofs.Common.{◌≡◌, ◌⊎◌, ⊎_elim, ℕ, zero, suc, ◌+◌, ◌<◌, ◌≤◌, Bool, true, false, List, [], ◌∷◌, length, Some, slice_get, sum_by, nat_eq, refl, sym, ap, ◌∙◌, true≢false, arith}
+use Rattle.std.proofs.Common.{◌≡◌, ◌⊎◌, ⊎_elim, ℕ, zero, suc, ◌+◌, ◌<◌, ◌≤◌, Bool, true, false, List, [], ◌∷◌, length, Contains, Some, slice_get, sum_by, nat_eq, refl, sym, ap, subst, ◌∙◌, true≢false, arith}
 use Rattle.std.proofs.lemmas.List.Sums.{sum_by-cons}
 use Rattle.xw_words.specs.declared.pos.Broken.{Broken}
 use Rattle.xc_kernel.specs.Plain as kernel
@@ -16,8 +16,8 @@ use Rattle.xc_disjoint.specs.Ends.{ends_by, ends_of, ends_below}
 use Rattle.xc_disjoint.specs.Needs.{ends_on}
 use Rattle.xc_disjoint.specs.Rules.{apart, ends, most_ends, needs}
 use Rattle.xl_plan.specs.Layout.{ends_before, ends_there, side_cores}
-use Rattle.xl_plan.proofs.Lists.{some_given}
-use Rattle.xl_plan.proofs.Together.{cores_of_one, no_cores, sum_of_none, sum_of_one, two_users, unused_by, uses}
+use Rattle.xl_plan.proofs.Lists.{some_given, contained_at, within_all}
+use Rattle.xl_plan.proofs.Together.{cores_of_one, no_cores, sum_of_none, sum_of_one, two_users, unused_by, used_among, uses}
 use Rattle.xl_plan.proofs.TwoSides.{SidesOf, sides_of, some_sided}
 use Rattle.xl_plan.proofs.Unused.{in_statements, none_has_sides}
 
@@ -96,6 +96,63 @@ module _ (k : kernel.Kernel) (unbroken : (b : Broken) → NotApart k b → ⊥) 
             sum_of_none (λ (r : kernel.Root). on_core core r.core (ends_of k r c)) k.roots (λ i r at. no_ends_here k core c (nat_eq (users c (branches_of k.roots)) 2) r (unused_by c k.roots e i r at))
             ∙ ap (ends_there core) (sym (no_cores c k.roots (unused_by c k.roots e)))
 
+    -- A root on the core that uses it.
+    module _ (place : ℕ) (r : kernel.Root) (at : slice_get k.roots place ≡ Some r) (here : r.core ≡ core) (used : uses c r ≡ true) where
+      -- a root counts where it is on the core and uses the channel
+      abbrev user : kernel.Root → ℕ
+      user q = on_core core q.core (once (uses c q))
+
+      no_user : (q : kernel.Root) → uses c q ≡ false → user q ≡ 0
+      no_user q none = ap (λ b. on_core core q.core (once b)) none ∙ if_none (nat_eq q.core core)
+
+      some_user : 1 ≤ sum_by user k.roots
+      some_user =
+          let on : nat_eq r.core core ≡ true = grind (arith, here) in
+          let own : user r ≡ 1 = ap (λ b. if_so b (once (uses c r))) on ∙ ap once used in
+          let within = within_all user k.roots place r at in
+          omega (arith, own, within)
+
+      is_user : (q : kernel.Root) → 1 ≤ user q → (b : Bool) → uses c q ≡ b → uses c q ≡ true
+      is_user q some true u = u
+      is_user q some false u = let none = no_user q u in absurd (let z : ⊥ = omega (arith, some, none) in z)
+
+      both_here : (b : Bool) (n : ℕ) → 1 ≤ if_so b n → 1 ≤ if_so b 1 + if_so b 1
+      both_here true n h = omega arith
+      both_here false n h = absurd (let z : ⊥ = omega (arith, h) in z)
+
+      -- where the sides are in one root, that is on the core
+      end_inside : nat_eq (users c (branches_of k.roots)) 2 ≡ false → (h : SidesOf k c) (i : ℕ) →
+          slice_get (branches_of k.roots ∷ pars.of_branches (branches_of k.roots)) i ≡ Some h.par → 1 ≤ ends_there core (side_cores c k.roots)
+      end_inside not_two h zero e =
+          let same = ap (users c) (some_given e) in
+          let two = h.two in
+          absurd (let z : ⊥ = grind (arith, not_two, same, two) in z)
+      end_inside not_two h (suc i) e =
+          let t = in_root k.roots h.par (i, e) in
+          let q = t.1 in
+          let all = h.all in
+          let most = (settled.of_statements c q.body).most h.par t.3 in
+          let sum = sum_of_one c user no_user k.roots t.0 q t.2 (omega (arith, all, most)) in
+          let some = some_user in
+          let own : 1 ≤ user q = omega (arith, sum, some) in
+          subst (λ cores. 1 ≤ ends_there core cores)
+          (sym (cores_of_one c k.roots t.0 q t.2 (is_user q own (uses c q) refl) (omega (arith, all, most))))
+          (both_here (nat_eq q.core core) (once (uses c q)) own)
+
+      -- a side is there
+      pub end_there : 1 ≤ ends_there core (side_cores c k.roots)
+      end_there = by (nat_eq (users c (branches_of k.roots)) 2) refl
+        where
+          by : (b : Bool) → nat_eq (users c (branches_of k.roots)) 2 ≡ b → 1 ≤ ends_there core (side_cores c k.roots)
+          by true e =
+              let two : users c (branches_of k.roots) ≡ 2 = grind (arith, e) in
+              let same = two_users c core k.roots two in
+              let some = some_user in
+              omega (arith, same, some)
+          by false e =
+              let h = sides_of k unbroken c is_channel (used_among c k.roots place r at used) in
+              end_inside e h h.among.0 h.among.1
+
   ends_for_channels : (n : ℕ) → n ≤ length k.channels → sum_by (λ (r : kernel.Root). on_core core r.core (ends_below k r n)) k.roots ≡ ends_before k core n
   ends_for_channels zero le = sum_of_none (λ (r : kernel.Root). on_core core r.core 0) k.roots (λ i r at. if_none (nat_eq r.core core))
   ends_for_channels (suc n) le =
@@ -119,3 +176,9 @@ few_ends k core checked is_core =
     ⊎_elim (λ le. omega (arith, e, le))
     (λ lt. absurd (checked.unbroken _ (needs (ends (record { core = core; is_core = is_core; more = lt })))))
     (within_or_not (ends_on k core) most_ends)
+
+-- A root that uses a channel has a side of it on its core.
+pub used_end : (k : kernel.Kernel) → IsChecked k → (c : ℕ) → c < length k.channels → (r : kernel.Root) → Contains k.roots r → uses c r ≡ true → 1 ≤ ends_there r.core (side_cores c k.roots)
+used_end k checked c is_channel r among used =
+    let at = contained_at k.roots r among in
+    end_there k (λ b h. checked.unbroken b (apart h)) r.core c is_channel at.0 r at.1 refl used

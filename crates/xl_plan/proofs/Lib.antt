@@ -16,3 +16,4 @@ pub mod TwoSides
 pub mod Together
 pub mod Ends
 pub mod Users
+pub mod FewResources

@@ -38,7 +38,7 @@ fitting_threads k core count h is_core e =
     let same = all_threads k core count h is_core e in
     omega (arith, few, same)
 
-few_timers : (k : kernel.Kernel) (core : ℕ) → IsChecked k → core ≤ last_core → timers_on k core ≤ most_timers
+pub few_timers : (k : kernel.Kernel) (core : ℕ) → IsChecked k → core ≤ last_core → timers_on k core ≤ most_timers
 few_timers k core h is_core =
     ⊎_elim (λ le. le)
     (λ lt. absurd (h.unbroken _ (needs (timers (record { core = core; is_core = is_core; more = lt })))))

@@ -136,7 +136,7 @@ module _ (k : kernel.Kernel) (checked : IsChecked k) (r : kernel.Root) (among : 
   timer_is_on t (Port p) h u = absurd (true≢false (sym u))
   timer_is_on t (Chan c) h u = absurd (true≢false (sym u))
 
-  root_each : (E : kernel.Expression → Type 0) (L : kernel.Place → Type 0) (Z : ℕ → Type 0) (O : kernel.Output → Type 0) (I : kernel.Input → Type 0) (T : ℕ → Type 0) (rs : List kernel.Root) (i : ℕ) → EachRoot E L Z O I T rs → slice_get rs i ≡ Some r → EachOf E L Z O I T r.body
+  pub root_each : (E : kernel.Expression → Type 0) (L : kernel.Place → Type 0) (Z : ℕ → Type 0) (O : kernel.Output → Type 0) (I : kernel.Input → Type 0) (T : ℕ → Type 0) (rs : List kernel.Root) (i : ℕ) → EachRoot E L Z O I T rs → slice_get rs i ≡ Some r → EachOf E L Z O I T r.body
   root_each E L Z O I T [] i h e = absurd (none_given e)
   root_each E L Z O I T (q ∷ rs) zero h e = subst (λ (x : kernel.Root). EachOf E L Z O I T x.body) (some_given e) h.0
   root_each E L Z O I T (q ∷ rs) (suc i) h e = root_each E L Z O I T rs i h.1 e
