@@ -7,7 +7,7 @@ use Rattle.xc_tree.specs.Words as words
 
 -- The words of later forms, by their places in `WORDS`. `on` is on the list by itself, and no symbol is a later form's.
 abbrev pub later_words : List ℕ
-later_words = words.master_word ∷ words.on_word ∷ words.select_word ∷ words.slave_word ∷ []
+later_words = words.master_word ∷ words.on_word ∷ words.slave_word ∷ []
 
 -- a place that is none of these
 abbrev pub IsNoneOf : List ℕ → ℕ → Type 0

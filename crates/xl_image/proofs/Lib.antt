@@ -1,4 +1,5 @@
 pub mod Threads
+pub mod Narrow
 pub mod Ready
 pub mod Sided
 pub mod Begun

@@ -1,17 +1,13 @@
 -- What is so of each root of a checked kernel whose code is built, and how much code there is.
-use Rattle.std.proofs.Common.{◌≡◌, ◌∙◌, ℕ, ◌+◌, ◌*◌, ◌^◌, ◌<◌, ◌≤◌, zero, suc, List, [], ◌∷◌, Option, Some, None, slice_get, sum_by, refl, sym, ap, subst, arith, eq-eqb}
-use Rattle.std.proofs.lemmas.List.Sums.{sum_by-cons}
+use Rattle.std.proofs.Common.{◌≡◌, ◌∙◌, ℕ, ◌+◌, ◌*◌, ◌^◌, ◌<◌, ◌≤◌, suc, List, [], ◌∷◌, Option, Some, None, slice_get, refl, sym, ap, subst, arith}
 use Rattle.std.specs.Prelude.{max}
 use Rattle.xc_kernel.specs.declared.kernel.Var.{Var}
 use Rattle.xc_kernel.specs.Plain as kernel
 use Rattle.xc_meaning.specs.Counts.KernelCounts.{branch_count}
 use Rattle.xc_disjoint.specs.Checked.{IsChecked}
-use Rattle.xc_disjoint.specs.Cores.{if_so}
-use Rattle.xc_disjoint.specs.Needs.{threads_of_root}
-use Rattle.xc_disjoint.specs.Threads as threads
-use Rattle.xc_wellformed.specs.Each.{AnyNumber, AnyOutput, AnyInput, EachCondition, EachMaybe, EachPlace, EachStatement, EachOf, EachBranch, EachRoot}
+use Rattle.xc_wellformed.specs.Each.{AnyNumber, AnyOutput, AnyInput, EachCondition, EachMaybe, EachPlace, EachStatement, EachOf, EachCase, EachDefault, EachBranch, EachRoot}
 use Rattle.xc_wellformed.specs.Levels.{IsLow, IsLowPlace, levels, levels_of_all}
-use Rattle.xc_wellformed.specs.Exits.{LeavesIn, AllLeaveIn, BranchesLeaveIn, EachRootLeaves}
+use Rattle.xc_wellformed.specs.Exits.{LeavesIn, AllLeaveIn, BranchesLeaveIn, CasesLeaveIn, DefaultLeavesIn, EachRootLeaves}
 use Rattle.xc_wellformed.specs.Parts as parts
 use Rattle.xc_wellformed.specs.Parts.{words_of, most_parts}
 use Rattle.xc_wellformed.proofs.Formed.{of_programs}
@@ -25,13 +21,13 @@ use Rattle.xl_port.specs.Inputs.{input_depth, waiting_depth}
 use Rattle.xl_port.specs.Outputs.{driving_depth, output_depth}
 use Rattle.xl_port.specs.Timings.{time_depth, time_nodes, timing_expression}
 use Rattle.xl_expr.specs.Destinations.{dest_depth, dest_nodes}
-use Rattle.xl_statements.specs.Built.{IsBuilt, AreBuilt, BranchesAreBuilt, IsShallow, AreShallow, BranchesAreShallow, HasFewBranches, ParsAreFew, ParsInBranchesAreFew, most, most_branches, most_of_all, most_of_branches, most_levels}
-use Rattle.xl_statements.specs.Inside.{IsInside, AreInside, BranchesAreInside}
+use Rattle.xl_select.specs.Entry.{entry_depth}
+use Rattle.xl_select.specs.OpeningCode.{case_depth, cases_depth, cases_parts}
+use Rattle.xl_statements.specs.Built.{IsBuilt, AreBuilt, BranchesAreBuilt, CasesAreBuilt, DefaultIsBuilt, IsShallow, AreShallow, BranchesAreShallow, CasesAreShallow, DefaultIsShallow, AreNarrow, most, most_of_all, most_of_branches, most_of_cases, most_of_default, most_levels}
+use Rattle.xl_statements.specs.Inside.{IsInside, AreInside, BranchesAreInside, CasesAreInside, DefaultIsInside}
 use Rattle.xl_image.specs.Images.{IsPlan}
 use Rattle.xl_image.specs.Roots.{RootsAreBuilt, AreReady, most_of_roots}
-use Rattle.xl_plan.proofs.Lists.{none_given, some_given}
-use Rattle.xl_image.proofs.Rooted.{root_is_low}
-use Rattle.xl_image.proofs.Threads.{few_threads, some_thread}
+use Rattle.xl_image.proofs.Narrow.{root_narrow}
 
 -- Levels.
 
@@ -64,6 +60,12 @@ StatementIsLow = EachStatement IsLow IsLowPlace AnyNumber AnyOutput AnyInput Any
 abbrev StatementsAreLow : kernel.Statements → Type 0
 StatementsAreLow = EachOf IsLow IsLowPlace AnyNumber AnyOutput AnyInput AnyNumber
 
+abbrev CasesAreLow : kernel.Cases → Type 0
+CasesAreLow = EachCase IsLow IsLowPlace AnyNumber AnyOutput AnyInput AnyNumber
+
+abbrev DefaultIsLow : kernel.Default → Type 0
+DefaultIsLow = EachDefault IsLow IsLowPlace AnyNumber AnyOutput AnyInput AnyNumber
+
 abbrev BranchesAreLow : kernel.Branches → Type 0
 BranchesAreLow = EachBranch IsLow IsLowPlace AnyNumber AnyOutput AnyInput AnyNumber
 
@@ -93,6 +95,19 @@ input_low i h =
     (both_low (waiting_depth i) (dest_depth i.target) (timing_low i.time i.condition h.1.0 h.1.1.0) (dest_low i.target h.1.1.1.0))
     (dest_low i.stamp h.1.1.1.1)
 
+-- what a case stores
+entry_low : (i : kernel.Input) → StatementIsLow (kernel.input i) → entry_depth i ≤ most_levels
+entry_low i h = both_low (dest_depth i.target) (dest_depth i.stamp) (dest_low i.target h.1.1.1.0) (dest_low i.stamp h.1.1.1.1)
+
+-- the guards, times and conditions of cases
+cases_low : (cs : kernel.Cases) → CasesAreLow cs → cases_depth cs ≤ most_levels
+cases_low kernel.no_case h = omega arith
+cases_low (kernel.more_cases (kernel.case guard i ss) cs) h =
+    both_low (case_depth guard i) (cases_depth cs)
+    (both_low (time_depth guard) (time_depth (timing_expression i.time i.condition)) (time_low guard h.0.0)
+    (timing_low i.time i.condition h.0.1.0.1.0 h.0.1.0.1.1.0))
+    (cases_low cs h.1)
+
 mutual
   shallow : (s : kernel.Statement) → StatementIsLow s → IsShallow s
   shallow (kernel.set_zero v) h = tt
@@ -103,13 +118,21 @@ mutual
   shallow (kernel.loop x a b) h = (low_expression x h.0, all_shallow a h.1.0, all_shallow b h.1.1)
   shallow (kernel.block n a) h = all_shallow a h
   shallow (kernel.exit n) h = tt
-  shallow (kernel.select cs d pos) h = tt
+  shallow (kernel.select cs d pos) h = (cases_low cs h.0, cases_shallow cs h.0, default_shallow d h.1)
   shallow (kernel.par bs) h = branches_shallow bs h
   shallow (kernel.transaction c is_master a start close) h = tt
 
   all_shallow : (ss : kernel.Statements) → StatementsAreLow ss → AreShallow ss
   all_shallow kernel.no_more h = tt
   all_shallow (kernel.more s ss) h = (shallow s h.0, all_shallow ss h.1)
+
+  cases_shallow : (cs : kernel.Cases) → CasesAreLow cs → CasesAreShallow cs
+  cases_shallow kernel.no_case h = tt
+  cases_shallow (kernel.more_cases (kernel.case guard i ss) cs) h = (entry_low i h.0.1.0, all_shallow ss h.0.1.1, cases_shallow cs h.1)
+
+  default_shallow : (d : kernel.Default) → DefaultIsLow d → DefaultIsShallow d
+  default_shallow kernel.no_default h = tt
+  default_shallow (kernel.default ss) h = all_shallow ss h
 
   branches_shallow : (bs : kernel.Branches) → BranchesAreLow bs → BranchesAreShallow bs
   branches_shallow kernel.no_branch h = tt
@@ -127,7 +150,7 @@ mutual
   inside around free (kernel.loop x a b) h = (all_inside around free a h.0, all_inside around free b h.1)
   inside around free (kernel.block n a) h = all_inside (n ∷ around) (n ∷ free) a h.1
   inside around free (kernel.exit n) h = h
-  inside around free (kernel.select cs d pos) h = tt
+  inside around free (kernel.select cs d pos) h = (cases_inside around free cs h.0, default_inside around free d h.1)
   inside around free (kernel.par bs) h = branches_inside around bs h
   inside around free (kernel.transaction c is_master a start close) h = tt
 
@@ -135,89 +158,37 @@ mutual
   all_inside around free kernel.no_more h = tt
   all_inside around free (kernel.more s ss) h = (inside around free s h.0, all_inside around free ss h.1)
 
+  cases_inside : (around free : List ℕ) (cs : kernel.Cases) → CasesLeaveIn around free cs → CasesAreInside free cs
+  cases_inside around free kernel.no_case h = tt
+  cases_inside around free (kernel.more_cases (kernel.case guard i ss) cs) h = (all_inside around free ss h.0, cases_inside around free cs h.1)
+
+  default_inside : (around free : List ℕ) (d : kernel.Default) → DefaultLeavesIn around free d → DefaultIsInside free d
+  default_inside around free kernel.no_default h = tt
+  default_inside around free (kernel.default ss) h = all_inside around free ss h
+
   branches_inside : (around : List ℕ) (bs : kernel.Branches) → BranchesLeaveIn around bs → BranchesAreInside bs
   branches_inside around kernel.no_branch h = tt
   branches_inside around (kernel.more_branches (kernel.branch ss pos) bs) h = (all_inside around [] ss h.0, branches_inside around bs h.1)
 
--- Branches of `par`s.
+-- All roots.
 
-left_few : (n m : ℕ) → max n m ≤ most_branches → n ≤ most_branches
-left_few n m h = grind arith
+abbrev EachIsNarrow : List kernel.Root → Type 0
+EachIsNarrow [] = Unit {0}
+EachIsNarrow (r ∷ rs) = AreNarrow r.body × EachIsNarrow rs
 
-right_few : (n m : ℕ) → max n m ≤ most_branches → m ≤ most_branches
-right_few n m h = grind arith
+each_narrow : (rs : List kernel.Root) → ((place : ℕ) (r : kernel.Root) → slice_get rs place ≡ Some r → AreNarrow r.body) → EachIsNarrow rs
+each_narrow [] h = tt
+each_narrow (r ∷ rs) h = (h 0 r refl, each_narrow rs (λ place q e. h (suc place) q e))
 
--- a `par` needs a thread for each
-branches_need : (bs : kernel.Branches) → branch_count bs ≤ threads.of_branches bs
-branches_need kernel.no_branch = omega arith
-branches_need (kernel.more_branches (kernel.branch ss pos) bs) = let a = some_thread ss in let b = branches_need bs in omega (arith, a, b)
-
-mutual
-  few_branches : (s : kernel.Statement) → threads.of_statement s ≤ most_branches → HasFewBranches s
-  few_branches (kernel.set_zero v) h = tt
-  few_branches (kernel.set p e) h = tt
-  few_branches (kernel.output o) h = tt
-  few_branches (kernel.input i) h = tt
-  few_branches (kernel.if_then x a b) h = (pars_few a (left_few (threads.of_statements a) (threads.of_statements b) h), pars_few b (right_few (threads.of_statements a) (threads.of_statements b) h))
-  few_branches (kernel.loop x a b) h = (pars_few a (left_few (threads.of_statements a) (threads.of_statements b) h), pars_few b (right_few (threads.of_statements a) (threads.of_statements b) h))
-  few_branches (kernel.block n a) h = pars_few a h
-  few_branches (kernel.exit n) h = tt
-  few_branches (kernel.select cs d pos) h = tt
-  few_branches (kernel.par bs) h =
-      let few = left_few (threads.of_branches bs) 1 h in
-      let need = branches_need bs in
-      (omega (arith, few, need), branches_few bs few)
-  few_branches (kernel.transaction c is_master a start close) h = tt
-
-  pars_few : (ss : kernel.Statements) → threads.of_statements ss ≤ most_branches → ParsAreFew ss
-  pars_few kernel.no_more h = tt
-  pars_few (kernel.more s ss) h = (few_branches s (left_few (threads.of_statement s) (threads.of_statements ss) h), pars_few ss (right_few (threads.of_statement s) (threads.of_statements ss) h))
-
-  branches_few : (bs : kernel.Branches) → threads.of_branches bs ≤ most_branches → ParsInBranchesAreFew bs
-  branches_few kernel.no_branch h = tt
-  branches_few (kernel.more_branches (kernel.branch ss pos) bs) h = (pars_few ss (omega (arith, h)), branches_few bs (omega (arith, h)))
-
--- a root needs no more threads than its core
-root_within : (core : ℕ) (rs : List kernel.Root) (place : ℕ) (r : kernel.Root) → slice_get rs place ≡ Some r → threads_of_root core r ≤ sum_by (threads_of_root core) rs
-root_within core [] place r e = absurd (none_given e)
-root_within core (q ∷ rs) zero r e =
-    let s = sum_by-cons (threads_of_root core) q rs in
-    let same = ap (threads_of_root core) (some_given e) in
-    omega (arith, s, same)
-root_within core (q ∷ rs) (suc place) r e =
-    let s = sum_by-cons (threads_of_root core) q rs in
-    let h = root_within core rs place r e in
-    omega (arith, s, h)
-
-own_threads : (r : kernel.Root) → threads_of_root r.core r ≡ threads.of_statements r.body
-own_threads r = ap (λ b. if_so b (threads.of_statements r.body)) (eq-eqb r.core r.core refl)
-
-abbrev EachFew : List kernel.Root → Type 0
-EachFew [] = Unit {0}
-EachFew (r ∷ rs) = ParsAreFew r.body × EachFew rs
-
-each_few : (rs : List kernel.Root) → ((place : ℕ) (r : kernel.Root) → slice_get rs place ≡ Some r → ParsAreFew r.body) → EachFew rs
-each_few [] h = tt
-each_few (r ∷ rs) h = (h 0 r refl, each_few rs (λ place q e. h (suc place) q e))
-
-ready : (rs : List kernel.Root) → RootsAreBuilt rs → EachRoot IsLow IsLowPlace AnyNumber AnyOutput AnyInput AnyNumber rs → EachRootLeaves rs → EachFew rs → AreReady rs
-ready [] built low leaves few = tt
-ready (r ∷ rs) built low leaves few =
-    (record { built = built.0; shallow = all_shallow r.body low.0; few = few.0; inside = all_inside [] [] r.body leaves.0 }, ready rs built.1 low.1 leaves.1 few.1)
-
--- on a core there are few threads
-root_few : (k : kernel.Kernel) → IsChecked k → (place : ℕ) (r : kernel.Root) → slice_get k.roots place ≡ Some r → ParsAreFew r.body
-root_few k checked place r e =
-    let is_core = root_is_low k checked place r e in
-    let all = few_threads k checked r.core is_core in
-    let own = root_within r.core k.roots place r e in
-    let same = own_threads r in
-    pars_few r.body (omega (arith, all, own, same))
+ready : (rs : List kernel.Root) → RootsAreBuilt rs → EachRoot IsLow IsLowPlace AnyNumber AnyOutput AnyInput AnyNumber rs → EachRootLeaves rs → EachIsNarrow rs → AreReady rs
+ready [] built low leaves narrow = tt
+ready (r ∷ rs) built low leaves narrow =
+    (record { built = built.0; shallow = all_shallow r.body low.0; narrow = narrow.0; inside = all_inside [] [] r.body leaves.0 }, ready rs built.1 low.1 leaves.1 narrow.1)
 
 pub roots_ready : (k : kernel.Kernel) → IsChecked k → RootsAreBuilt k.roots → AreReady k.roots
 roots_ready k checked built =
     let formed = of_programs k checked.of_program in
-    ready k.roots built formed.levels formed.exits (each_few k.roots (λ place r e. root_few k checked place r e))
+    ready k.roots built formed.levels formed.exits (each_narrow k.roots (λ place r e. root_narrow k checked place r e))
 
 -- How much code.
 
@@ -276,13 +247,25 @@ module _ (vs : List Var) (vars : List (Option VarPlan)) (zeros : (v : ℕ) → r
         let n = same_nodes x in let m = some_nodes x in let p = all_few a h.0 in let q = all_few b h.1 in omega (arith, n, m, p, q)
     few (kernel.block n a) h = all_few a h
     few (kernel.exit n) h = omega arith
-    few (kernel.select cs d pos) h = absurd h
+    few (kernel.select cs d pos) h = let a = few_in_cases cs h.0 in let b = few_in_default d h.1 in omega (arith, a, b)
     few (kernel.par bs) h = few_in bs h
     few (kernel.transaction c is_master a start close) h = absurd h
 
     all_few : (ss : kernel.Statements) → AreBuilt ss → most_of_all vars ss ≤ 32 * parts.of_statements vs ss
     all_few kernel.no_more h = omega arith
     all_few (kernel.more s ss) h = let a = few s h.0 in let b = all_few ss h.1 in omega (arith, a, b)
+
+    -- with the parts of what opens the select
+    few_in_cases : (cs : kernel.Cases) → CasesAreBuilt cs → 8 * cases_parts cs + most_of_cases vars cs ≤ 32 * parts.of_cases vs cs
+    few_in_cases kernel.no_case h = omega arith
+    few_in_cases (kernel.more_cases (kernel.case guard i ss) cs) h =
+        let g = same_time guard in let w = few_waiting i.time i.condition in let t = same_dest i.target in let s = same_dest i.stamp in
+        let body = all_few ss h.0 in let others = few_in_cases cs h.1 in
+        omega (arith, g, w, t, s, body, others)
+
+    few_in_default : (d : kernel.Default) → DefaultIsBuilt d → most_of_default vars d ≤ 32 * parts.of_default vs d
+    few_in_default kernel.no_default h = omega arith
+    few_in_default (kernel.default ss) h = let a = all_few ss h in omega (arith, a)
 
     few_in : (bs : kernel.Branches) → BranchesAreBuilt bs → most_of_branches vars bs + 13 * branch_count bs ≤ 32 * parts.of_branches vs bs
     few_in kernel.no_branch h = omega arith

@@ -15,15 +15,15 @@ use Rattle.xc_kernel.specs.Calls.{CopiesCall, function_copy}
 use Rattle.xc_kernel.specs.Statements.{statement_copy}
 use Rattle.xc_kernel.specs.Roots.{Rooted, is_placed, has_placed, action_has_placed, block_has_placed, in_block, context_of, roots_by, roots_of}
 use Rattle.xc_kernel.specs.Copies.{calls_of, rooted, copy_of}
-use Rattle.xc_wellformed.specs.Each.{AnyExpression, AnyPlace, AnyNumber, EachStatement, EachOf, EachBranch, EachRoot}
+use Rattle.xc_wellformed.specs.Each.{AnyExpression, AnyPlace, AnyNumber, EachStatement, EachOf, EachCase, EachDefault, EachBranch, EachRoot}
 use Rattle.xc_wellformed.specs.Transfers.{OutputGoes, GoesOut, ComesIn}
 use Rattle.xc_wellformed.proofs.Formed.{transfers_right}
 use Rattle.xc_wellformed.proofs.Grammar.{AllOf, MaybeOf}
-use Rattle.xl_statements.specs.Built.{IsSent, IsBuilt, AreBuilt, BranchesAreBuilt}
+use Rattle.xl_statements.specs.Built.{IsSent, IsBuilt, AreBuilt, BranchesAreBuilt, CasesAreBuilt, DefaultIsBuilt}
 use Rattle.xl_image.specs.Roots.{RootsAreBuilt, StayOnCores}
 use Rattle.xl_image.specs.TodayLaws.{KernelsAreBuilt}
 use Rattle.xl_image.proofs.TodayEarly.{IsEarlyAction, IsEarly, AreEarly, IsEarlyBranch, AreEarlyBranches, IsEarlyItem, program_early}
-use Rattle.xl_image.proofs.TodayCopied.{IsEarlyCode, AreEarlyCode, HaveEarlyCode, IsEarlyFunction, CallsEarly, as_statements, named_early, function_early, calls_early}
+use Rattle.xl_image.proofs.TodayCopied.{IsEarlyCode, AreEarlyCode, HaveEarlyCode, CasesHaveEarlyCode, DefaultHasEarlyCode, IsEarlyFunction, CallsEarly, as_statements, named_early, function_early, calls_early}
 
 -- Roots.
 
@@ -118,13 +118,21 @@ module _ (K : kernel.Kernel) where
     statement_built (kernel.loop e a b) h g = (statements_built a h.0 g.1.0, statements_built b h.1 g.1.1)
     statement_built (kernel.block n a) h g = statements_built a h g
     statement_built (kernel.exit n) h g = tt
-    statement_built (kernel.select cs d pos) h g = absurd h
+    statement_built (kernel.select cs d pos) h g = (cases_built cs h.0 g.0, default_built d h.1 g.1)
     statement_built (kernel.par bs) h g = branches_built bs h g
     statement_built (kernel.transaction c is_master a start close) h g = absurd h
 
     statements_built : (ss : kernel.Statements) → AreEarlyCode ss → EachOf AnyExpression AnyPlace AnyNumber (GoesOut K) (ComesIn K) AnyNumber ss → AreBuilt ss
     statements_built kernel.no_more h g = tt
     statements_built (kernel.more s ss) h g = (statement_built s h.0 g.0, statements_built ss h.1 g.1)
+
+    cases_built : (cs : kernel.Cases) → CasesHaveEarlyCode cs → EachCase AnyExpression AnyPlace AnyNumber (GoesOut K) (ComesIn K) AnyNumber cs → CasesAreBuilt cs
+    cases_built kernel.no_case h g = tt
+    cases_built (kernel.more_cases (kernel.case guard i ss) cs) h g = (statements_built ss h.0 g.0.1.1, cases_built cs h.1 g.1)
+
+    default_built : (d : kernel.Default) → DefaultHasEarlyCode d → EachDefault AnyExpression AnyPlace AnyNumber (GoesOut K) (ComesIn K) AnyNumber d → DefaultIsBuilt d
+    default_built kernel.no_default h g = tt
+    default_built (kernel.default ss) h g = statements_built ss h g
 
     branches_built : (bs : kernel.Branches) → HaveEarlyCode bs → EachBranch AnyExpression AnyPlace AnyNumber (GoesOut K) (ComesIn K) AnyNumber bs → BranchesAreBuilt bs
     branches_built kernel.no_branch h g = tt

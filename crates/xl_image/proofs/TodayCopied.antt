@@ -11,22 +11,22 @@ use Rattle.xc_kernel.specs.Paths.{Path, path_at}
 use Rattle.xc_kernel.specs.Scopes.{Scope, Entity, an_array, a_constant, entity_of, with_name}
 use Rattle.xc_kernel.specs.Programs.{Function, function_by, function_named}
 use Rattle.xc_kernel.specs.Copy.{Copy, joined}
-use Rattle.xc_kernel.specs.Context.{Context, in_branch, in_loop, in_function}
+use Rattle.xc_kernel.specs.Context.{Context, in_branch, in_loop, in_case, in_function}
 use Rattle.xc_kernel.specs.Parameters.{by_element, form_by_reference, by_reference, by_name, passed, all_passed}
 use Rattle.xc_kernel.specs.Calls.{CopiesCall, called, call_by, right_copy, result_copy, function_copy, path_of_call}
 use Rattle.xc_kernel.specs.Declarations.{initial_copy, kind_copy, declarations_copy}
-use Rattle.xc_kernel.specs.Flow.{Branched, and_branch, par_copy, numbered_copy, replicated}
-use Rattle.xc_kernel.specs.Statements.{pos_of_branch, assign_by, return_copy, statement_copy, action_copy, maybe_copy, statements_copy, branch_copy, branches_copy, calls_copy}
+use Rattle.xc_kernel.specs.Flow.{Branched, and_branch, par_copy, numbered_copy, replicated, Cased, and_case, case_scope}
+use Rattle.xc_kernel.specs.Statements.{pos_of_branch, assign_by, return_copy, statement_copy, action_copy, maybe_copy, statements_copy, branch_copy, branches_copy, cases_copy, calls_copy}
 use Rattle.xc_wellformed.proofs.Grammar.{AllOf, MaybeOf}
-use Rattle.xl_image.proofs.TodayEarly.{IsEarly, IsEarlyAction, IsMaybeEarly, AreEarly, IsEarlyBranch, AreEarlyBranches}
+use Rattle.xl_image.proofs.TodayEarly.{IsEarly, IsEarlyAction, IsMaybeEarly, AreEarly, AreEarlyCases, IsEarlyBranch, AreEarlyBranches}
 
--- no `select` and no transaction
+-- no transaction
 abbrev mutual
   pub IsEarlyCode : kernel.Statement → Type 0
   IsEarlyCode (kernel.if_then test a b) = AreEarlyCode a × AreEarlyCode b
   IsEarlyCode (kernel.loop test a b) = AreEarlyCode a × AreEarlyCode b
   IsEarlyCode (kernel.block n a) = AreEarlyCode a
-  IsEarlyCode (kernel.select cs d pos) = ⊥
+  IsEarlyCode (kernel.select cs d pos) = CasesHaveEarlyCode cs × DefaultHasEarlyCode d
   IsEarlyCode (kernel.par bs) = HaveEarlyCode bs
   IsEarlyCode (kernel.transaction c is_master a start close) = ⊥
   IsEarlyCode other = Unit {0}
@@ -39,6 +39,14 @@ abbrev mutual
   HaveEarlyCode kernel.no_branch = Unit {0}
   HaveEarlyCode (kernel.more_branches (kernel.branch ss pos) bs) = AreEarlyCode ss × HaveEarlyCode bs
 
+  pub CasesHaveEarlyCode : kernel.Cases → Type 0
+  CasesHaveEarlyCode kernel.no_case = Unit {0}
+  CasesHaveEarlyCode (kernel.more_cases (kernel.case guard i ss) cs) = AreEarlyCode ss × CasesHaveEarlyCode cs
+
+  pub DefaultHasEarlyCode : kernel.Default → Type 0
+  DefaultHasEarlyCode kernel.no_default = Unit {0}
+  DefaultHasEarlyCode (kernel.default ss) = AreEarlyCode ss
+
 -- so is the code of a copy
 abbrev pub IsEarlyCopy : Copy → Type 0
 IsEarlyCopy copy = AllOf IsEarlyCode copy.code
@@ -46,6 +54,10 @@ IsEarlyCopy copy = AllOf IsEarlyCode copy.code
 -- so are branches
 abbrev IsEarlyBranched : Branched → Type 0
 IsEarlyBranched b = HaveEarlyCode b.branches
+
+-- so are cases and the `default`
+abbrev AreEarlyCased : Cased → Type 0
+AreEarlyCased s = CasesHaveEarlyCode s.cases × DefaultHasEarlyCode s.otherwise
 
 -- a function with such a body
 abbrev pub IsEarlyFunction : Function → Type 0
@@ -76,6 +88,12 @@ replicated_early copy h pos scope (suc count) index number =
 -- a `par` of them
 par_early : (b : Branched) → IsEarlyBranched b → IsEarlyCopy (par_copy b)
 par_early b h = (h, tt)
+
+-- Cases.
+
+and_case_early : (c : Context) (scope : Scope) (pos : Pos) (guard : Option tree.Expression) (i : Option tree.Input) (body : Copy) (others : Cased) → IsEarlyCopy body → AreEarlyCased others → AreEarlyCased (and_case c scope pos guard i body others)
+and_case_early c scope pos guard None body others h g = (g.0, (as_statements body.code h, tt))
+and_case_early c scope pos guard (Some i) body others h g = (((as_statements body.code h, tt), g.0), g.1)
 
 -- Arguments.
 
@@ -220,7 +238,7 @@ module _ (copies : CopiesCall) (calls : CallsEarly copies) where
         par_early (replicated copy (pos_of_branch b) scope (until - from) 0 from)
         (replicated_early copy (λ index number. branch_early b (in_branch c index) (with_name scope x.text (a_constant number)) fs h)
         (pos_of_branch b) scope (until - from) 0 from)
-    action_early (tree.select cs) pos close c scope fs h = absurd h
+    action_early (tree.select cs) pos close c scope fs h = (cases_early cs c scope fs h, tt)
     action_early (tree.transaction is_master ss) pos close c scope fs h = absurd h
 
     maybe_early : (s : tree.Maybe) (c : Context) (scope : Scope) →
@@ -246,6 +264,14 @@ module _ (copies : CopiesCall) (calls : CallsEarly copies) where
         let first = branch_copy copies b (in_branch c index) scope in
         and_branch_early (pos_of_branch b) first (branches_copy copies bs (index + 1) c first.scope)
         (branch_early b (in_branch c index) scope fs h.0) (branches_early bs (index + 1) c first.scope fs h.1)
+
+    cases_early : (cs : tree.Cases) (c : Context) (scope : Scope) →
+        AllOf IsEarlyFunction c.functions → AreEarlyCases cs → AreEarlyCased (cases_copy copies cs c scope)
+    cases_early tree.no_case c scope fs h = (tt, tt)
+    cases_early (tree.more_cases (tree.case pos guard i ss) cs) c scope fs h =
+        let inner = case_scope c scope i in
+        and_case_early c scope pos guard i (statements_copy copies ss (in_case c pos) inner) (cases_copy copies cs c scope)
+        (statements_early ss (in_case c pos) inner fs h.0) (cases_early cs c scope fs h.1)
 
   -- the instance of a function
   pub function_early : (c : Context) (scope : Scope) (own : Path) (f : Function) (args : List tree.Argument) → AllOf IsEarlyFunction c.functions → IsEarlyFunction f → IsEarlyCopy (function_copy (statement_copy copies) c scope own f args)

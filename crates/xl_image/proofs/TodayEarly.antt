@@ -3,14 +3,14 @@ use Rattle.std.proofs.Common.{◌≡◌, ℕ, zero, suc, List, [], ◌∷◌, sl
 use Rattle.xc_tree.specs.declared.token.Tok.{Tok}
 use Rattle.xc_tree.specs.Plain as plain
 use Rattle.xc_tree.specs.Words as words
-use Rattle.xc_tree.specs.Symbol.{Symbol, sym, key, a_name, a_number, many, maybe, commas, program, item, body, block, block_item, decl, statement, closed, case_item, for_start, for_step, place as placed, branch, assign, Value, Values}
+use Rattle.xc_tree.specs.Symbol.{Symbol, sym, key, a_name, a_number, many, maybe, commas, program, item, body, block, block_item, decl, statement, closed, case_item, for_start, for_step, place as placed, branch, case, assign, Value, Values}
 use Rattle.xc_tree.specs.Grammar.{Rule, Extent, rules, kept}
 use Rattle.xc_tree.specs.Derives.{Room, extent, Derives, a_sym, a_key, named, counted, by_rule, Row, done, next}
 use Rattle.xl_image.proofs.TodayRules.{EachRule, none, ◌&◌, among_each}
 use Rattle.xc_wellformed.proofs.Grammar.{AllOf, MaybeOf}
 use Rattle.xc_today.specs.Today.{later_words, IsNoneOf, KindIsSupported, IsSupported}
 
--- no `select`, no transaction and no placed branch
+-- no transaction and no placed branch
 abbrev mutual
   pub IsEarly : plain.Statement → Type 0
   IsEarly (plain.statement action pos close own) = IsEarlyAction action
@@ -23,7 +23,7 @@ abbrev mutual
   IsEarlyAction (plain.for_loop first test step s) = IsMaybeEarly first × (IsMaybeEarly step × IsEarly s)
   IsEarlyAction (plain.par bs) = AreEarlyBranches bs
   IsEarlyAction (plain.replicated first second third from until b) = IsEarlyBranch b
-  IsEarlyAction (plain.select cs) = ⊥
+  IsEarlyAction (plain.select cs) = AreEarlyCases cs
   IsEarlyAction (plain.transaction is_master ss) = ⊥
   IsEarlyAction other = Unit {0}
 
@@ -42,6 +42,13 @@ abbrev mutual
   AreEarlyBranches plain.no_branch = Unit {0}
   AreEarlyBranches (plain.more_branches b bs) = IsEarlyBranch b × AreEarlyBranches bs
 
+  pub IsEarlyCase : plain.Case → Type 0
+  IsEarlyCase (plain.case pos guard i ss) = AreEarly ss
+
+  pub AreEarlyCases : plain.Cases → Type 0
+  AreEarlyCases plain.no_case = Unit {0}
+  AreEarlyCases (plain.more_cases c cs) = IsEarlyCase c × AreEarlyCases cs
+
 abbrev pub IsEarlyItem : plain.Item → Type 0
 IsEarlyItem (plain.port p) = Unit {0}
 IsEarlyItem (plain.function head s) = IsEarly s
@@ -59,6 +66,10 @@ all_early (s ∷ ss) h = (h.0, all_early ss h.1)
 all_branches : (bs : List plain.Branch) → AllOf IsEarlyBranch bs → AreEarlyBranches (plain.branches bs)
 all_branches [] h = tt
 all_branches (b ∷ bs) h = (h.0, all_branches bs h.1)
+
+all_cases : (cs : List plain.Case) → AllOf IsEarlyCase cs → AreEarlyCases (plain.cases cs)
+all_cases [] h = tt
+all_cases (c ∷ cs) h = (h.0, all_cases cs h.1)
 
 no_place : {V : Type 0} (o : Option V) → MaybeOf (λ v. ⊥) o → o ≡ None
 no_place None h = refl
@@ -88,6 +99,7 @@ Good for_start = IsEarly
 Good for_step = IsEarly
 Good placed = λ p. ⊥
 Good branch = IsEarlyBranch
+Good case = IsEarlyCase
 Good assign = IsEarlyAction
 Good other = λ v. Unit {0}
 
@@ -141,15 +153,16 @@ all_keep statement =
     (λ e x g. tt) &
     (λ e x g. all_branches x.1.1.0 g.1.1.0) &
     (λ e x g. g.1.1.1.1.1.1.1.1.1.1.1.1.1.1.0) &
-    (λ e x g. absurd (no_one later_words 2 words.select_word refl g.0)) &
+    (λ e x g. (g.1.1.0, all_cases x.1.1.1.0 g.1.1.1.0)) &
     (λ e x g. absurd (no_one later_words 0 words.master_word refl g.0)) &
-    (λ e x g. absurd (no_one later_words 3 words.slave_word refl g.0)) & none
+    (λ e x g. absurd (no_one later_words 2 words.slave_word refl g.0)) & none
 all_keep closed = (λ e x g. g.0) & none
 all_keep case_item = (λ e x g. g.0) & (λ e x g. g.0) & none
 all_keep for_start = (λ e x g. g.0) & (λ e x g. tt) & none
 all_keep for_step = (λ e x g. g.0) & none
 all_keep placed = (λ e x g. no_one later_words 1 words.on_word refl g.0) & (λ e x g. no_one later_words 1 words.on_word refl g.0) & none
 all_keep branch = (λ e x g. (no_place x.0 g.0, g.1.0)) & none
+all_keep case = (λ e x g. all_early x.1.1.1.1.0 g.1.1.1.1.0) & (λ e x g. all_early x.1.1.0 g.1.1.0) & none
 all_keep assign = (λ e x g. tt) & (λ e x g. tt) & (λ e x g. tt) & (λ e x g. tt) & none
 all_keep s = nothing (rules s)
 

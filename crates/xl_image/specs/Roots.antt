@@ -11,7 +11,7 @@ use Rattle.xl_expr.specs.declared.plan.VarPlan.{VarPlan}
 use Rattle.xl_image.specs.Images.{SidedRoot}
 use Rattle.xl_plan.specs.Layout.{temporary_of}
 use Rattle.xl_ends.specs.Ends.{Sides}
-use Rattle.xl_statements.specs.Built.{AreBuilt, AreShallow, ParsAreFew, most_of_all}
+use Rattle.xl_statements.specs.Built.{AreBuilt, AreNarrow, AreShallow, most_of_all}
 use Rattle.xl_statements.specs.Inside.{AreInside}
 use Rattle.xl_statements.specs.Roots.{IsRoot}
 
@@ -31,11 +31,12 @@ pub record KernelIsBuilt (k : kernel.Kernel) : Type 0 where
   pub roots : RootsAreBuilt k.roots
   pub stay : StayOnCores k
 
--- a root whose code is built, with shallow expressions, with few branches in each `par`, and exits of blocks around them alone
+-- a root whose code is built, with shallow expressions, few branches in each `par` and few resources in each select, and exits of blocks
+-- around them alone
 pub record IsReady (r : kernel.Root) : Type 0 where
   pub built : AreBuilt r.body
   pub shallow : AreShallow r.body
-  pub few : ParsAreFew r.body
+  pub narrow : AreNarrow r.body
   pub inside : AreInside [] r.body
 
 abbrev pub AreReady : List kernel.Root → Type 0

@@ -4,7 +4,7 @@ use Rattle.xc_kernel.specs.Kernels.{root_of}
 use Rattle.xs_instr.specs.Adds.{Adds}
 use Rattle.xs_instr.specs.Lines.{last_pos}
 use Rattle.xl_ends.specs.Sides.{sides_of}
-use Rattle.xl_statements.specs.Built.{statements_of, AreBuilt, AreShallow, ParsAreFew, most_of_all}
+use Rattle.xl_statements.specs.Built.{statements_of, AreBuilt, AreNarrow, AreShallow, most_of_all}
 use Rattle.xl_statements.specs.Inside.{AreInside, StandAlone}
 use Rattle.xl_statements.specs.Roots.{IsRoot}
 use Rattle.xl_image.specs.Roots.{IsRootCode, most_of_root}
@@ -44,8 +44,8 @@ emit_root-requires-clause-built c = subst (λ (b : List Kst). AreBuilt (statemen
 pub emit_root-requires-clause-shallow : goal.emit_root-requires-clause-shallow
 emit_root-requires-clause-shallow c = subst (λ (b : List Kst). AreShallow (statements_of b)) (sym c.as_slice.ensures) c.requires.ready.shallow
 
-pub emit_root-requires-clause-few : goal.emit_root-requires-clause-few
-emit_root-requires-clause-few c = subst (λ (b : List Kst). ParsAreFew (statements_of b)) (sym c.as_slice.ensures) c.requires.ready.few
+pub emit_root-requires-clause-narrow : goal.emit_root-requires-clause-narrow
+emit_root-requires-clause-narrow c = subst (λ (b : List Kst). AreNarrow (statements_of b)) (sym c.as_slice.ensures) c.requires.ready.narrow
 
 pub emit_root-requires-clause-inside : goal.emit_root-requires-clause-inside
 emit_root-requires-clause-inside c = subst (λ (b : List Kst). AreInside [] (statements_of b)) (sym c.as_slice.ensures) c.requires.ready.inside
