@@ -16,12 +16,13 @@ use std::thread::Threads;
 use xw_io::{FsShelf, Out, Shelf, Sink, StdSink};
 
 /// The files of cases.
-const FILES: [&str; 5] = [
+const FILES: [&str; 6] = [
     "words.txt",
     "texts.txt",
     "runs.txt",
     "channels.txt",
     "stimuli.txt",
+    "selects.txt",
 ];
 
 /// Ends with 1 where a case differs, a file can't be read or the output fails.

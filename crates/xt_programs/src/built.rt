@@ -2,12 +2,14 @@
 
 ghost use Rattle.std.specs.Bool.{OnTrue};
 ghost use Rattle.std.specs.Prelude.{map};
-ghost use Rattle.xc_kernel.specs.Kernels.{output_of, root_of, statement_of};
+ghost use Rattle.xc_kernel.specs.Kernels.{default_of, output_of, root_of, statement_of};
 ghost use Rattle.xc_kernel.specs.Plain as plain;
 ghost use Rattle.xl_image.specs.Roots.{RootsAreBuilt};
-ghost use Rattle.xl_statements.specs.Built.{AreBuilt, BranchesAreBuilt, IsBuilt, branches_of, statements_of};
+ghost use Rattle.xl_select.specs.OpeningCode.{cases_of};
+ghost use Rattle.xl_statements.specs.Built.{AreBuilt, BranchesAreBuilt, CasesAreBuilt, DefaultIsBuilt, IsBuilt, branches_of, statements_of};
 
-use xc_kernel::{KBranch, KOut, KRes, Kst, Root};
+use xc_kernel::{KBranch, KCase, KOut, KRes, Kst, Root};
+use xw_words::List;
 
 /// Whether the code of each root is built.
 pub fn are_roots_built(roots: &[Root]) -> bool
@@ -53,8 +55,36 @@ fn is_built(statement: &Kst) -> bool
         Kst::Exit(_) => true,
         Kst::Par(branches) => are_branches_built(branches.as_slice()),
         Kst::In(_) => true,
-        Kst::Select(_) => false,
+        Kst::Select(select) => {
+            are_cases_built(select.cases.as_slice()) && is_default_built(&select.otherwise)
+        }
         Kst::Tran { .. } => false,
+    }
+}
+
+/// Whether the code of each case is built.
+#[cycle(statement)]
+#[tactic(auto, using(xl_statements::proofs::Cases::cases_at))]
+fn are_cases_built(cases: &[KCase]) -> bool
+    ensures { OnTrue result (CasesAreBuilt (cases_of cases.now)) }
+{
+    for case in cases {
+        if !are_built(case.body.as_slice()) {
+            return false;
+        }
+    }
+    true
+}
+
+/// Whether the code of a default is built, if there is one.
+#[cycle(statement)]
+#[tactic(auto, using(xc_kernel::proofs::Forms::forms))]
+fn is_default_built(otherwise: &Option<List<Kst>>) -> bool
+    ensures { OnTrue result (DefaultIsBuilt (default_of otherwise.now)) }
+{
+    match otherwise {
+        None => true,
+        Some(body) => are_built(body.as_slice()),
     }
 }
 

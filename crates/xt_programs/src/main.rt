@@ -21,12 +21,13 @@ use xw_words::List;
 /// The most bytes that come of a case's text.
 const MOST_BYTES: usize = 65_536;
 
-/// What must come of the texts of a file: listings, the runs of the examples, or runs that read ports and timers.
+/// What must come of the texts of a file: listings, the runs of the examples, runs that read ports and timers, or runs with selects.
 #[derive(Clone, Copy)]
 enum Wanted {
     Listing,
     Run,
     Input,
+    Select,
 }
 
 impl Wanted {
@@ -36,6 +37,7 @@ impl Wanted {
             Wanted::Listing => "listings.txt",
             Wanted::Run => "runs.txt",
             Wanted::Input => "inputs.txt",
+            Wanted::Select => "selects.txt",
         };
         CaseFile { name, gap: "\n\n" }
     }
@@ -58,7 +60,12 @@ fn main(rt: HostRuntime) -> ExitCode {
     let mut out = Out::new(&mut sink);
     let mut shelf = FsShelf::new(&rt);
     let mut all_hold = true;
-    for wanted in [Wanted::Listing, Wanted::Run, Wanted::Input] {
+    for wanted in [
+        Wanted::Listing,
+        Wanted::Run,
+        Wanted::Input,
+        Wanted::Select,
+    ] {
         let holds = report(rt.alloc(), &mut shelf, &mut out, wanted.file(), &wanted);
         all_hold = all_hold && holds;
     }
@@ -73,7 +80,9 @@ fn difference_of(alloc: Global, wanted: Wanted, lines: &str) -> Result<Option<St
     let mut sink = MemSink::new(alloc, MOST_BYTES, List::new(alloc))?;
     match wanted {
         Wanted::Listing => write_listing(alloc, text, &mut sink)?,
-        Wanted::Run | Wanted::Input => write_run(alloc, text, case.stimulus.as_bytes(), &mut sink)?,
+        Wanted::Run | Wanted::Input | Wanted::Select => {
+            write_run(alloc, text, case.stimulus.as_bytes(), &mut sink)?
+        }
     }
     let Ok(came) = str::from_utf8(sink.bytes()) else {
         return Err(Trouble::Long);
