@@ -1,6 +1,6 @@
 """Programs that are made by chance and break no rule: from one source of chance always the same text.
 
-With all forms they have selects, transactions and placed branches too. Nothing else that they do is known: they may err, wait for ever or never
+With all forms they have transactions and placed branches too. Nothing else that they do is known: they may err, wait for ever or never
 come to an end."""
 
 from __future__ import annotations
@@ -227,8 +227,8 @@ class Writer:
             ways += ["if", "if", "while", "do", "for", "for", "block"]
             if at.threads > 1 and at.talks and at.depth < 4:
                 ways += ["par", "par", "replicated"]
-            if self.has_all and at.talks:
-                ways += ["select", "select", "transaction"]
+            if at.talks:
+                ways += ["select", "select", "transaction"] if self.has_all else ["select", "select"]
         while True:
             if (made := getattr(self, f"write_{self.chance.choice(ways)}")(at)) is not None:
                 return made
@@ -433,8 +433,6 @@ class Writer:
         self.threads = max(before, self.threads * count, 1)
         return f"par (int {name} = {first}; {name} < {first + count}; {name}++) {body}"
 
-    # what isn't built yet
-
     def write_select(self, at: Where) -> str | None:
         made = []
         for _ in range(self.chance.randint(1, 3)):
@@ -451,6 +449,8 @@ class Writer:
     def case_of_channel(self, at: Where) -> str | None:
         name = self.pick(at, lambda it: it.kind == "chanend")
         return name and f"{name} :> {self.destination(at)}"
+
+    # what isn't built yet
 
     def write_transaction(self, at: Where) -> str | None:
         name = self.pick(at, lambda it: it.kind == "chanend")
