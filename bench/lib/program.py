@@ -12,7 +12,7 @@ from typing import Optional
 from .clang import size_by_clang, size_of_listing
 from .scratch import TOP, write
 from .timing import Run, least, run
-from .xc import EIGHT, LOOPS, PACES, SELECT_PACES, edges, endless, long_program, selects, waits
+from .xc import EIGHT, LINKS, LOOPS, PACES, SELECT_PACES, edges, endless, long_program, selects, waits
 
 TICKS = 200_000
 
@@ -95,6 +95,11 @@ def waiting_row(pace: str, room: str, interpreter: Optional[str]) -> dict:
 def select_row(pace: str, room: str, interpreter: Optional[str]) -> dict:
     """The same of the program of threads in selects."""
     return {"waits": pace, **compared(calls_of(selects(pace), edges(SELECT_PACES[pace], TICKS), room, interpreter))}
+
+
+def link_row(name: str, room: str, interpreter: Optional[str]) -> dict:
+    """How long a program of four cores takes, and whether the interpreter writes the same trace."""
+    return {"four cores": name, **compared(calls_of(LINKS[name], "", room, interpreter))}
 
 
 def refusal(text: str, room: str) -> str:

@@ -59,6 +59,31 @@ SELECTS = (
 )
 SELECT_PACES = {"often": 200, "seldom": 20_000}  # to set a select up takes some 30 ticks
 
+# Rings and pairs over the links of four cores: a token that goes round, through a thread on each core or through eight of them, and threads of
+# which four on each core give words to four on the next one.
+PASSES = (
+    "void begin(chanend from, chanend to) { int t = 0; while (1) { to <: t; from :> t; } }\n"
+    "void pass(chanend from, chanend to) { int t; while (1) { from :> t; to <: t + 1; } }\n"
+    "void lead(chanend from, chanend to) { chan a, b, c; par { begin(from, a); pass(a, b); pass(b, c); pass(c, to); } }\n"
+    "void four(chanend from, chanend to) { chan a, b, c; par { pass(from, a); pass(a, b); pass(b, c); pass(c, to); } }\n"
+)
+GIVES = (
+    "void give(chanend c) { unsigned x = 0; while (1) { c <: x; x++; } }\n"
+    "void take(chanend c) { unsigned x, s = 0; while (1) { c :> x; s += x; } }\n"
+)
+LINKS = {
+    "ring of four": f"{PASSES}int main(void) {{ chan a, b, c, d; par {{ on tile[0] : begin(d, a); on tile[1] : pass(a, b);"
+    " on tile[2] : pass(b, c); on tile[3] : pass(c, d); } return 0; }\n",
+    "ring of 32": f"{PASSES}int main(void) {{ chan a, b, c, d, e, f, g, h; par {{ on tile[0] : par {{ lead(h, a); four(a, b); }}"
+    " on tile[1] : par { four(b, c); four(c, d); } on tile[2] : par { four(d, e); four(e, f); }"
+    " on tile[3] : par { four(f, g); four(g, h); } } return 0; }\n",
+    "pairs": f"{GIVES}int main(void) {{ chan a, b, c, d, e, f, g, h, i, j, k, l, m, n, o, p; par {{"
+    " on tile[0] : par { give(a); give(b); give(c); give(d); take(m); take(n); take(o); take(p); }"
+    " on tile[1] : par { give(e); give(f); give(g); give(h); take(a); take(b); take(c); take(d); }"
+    " on tile[2] : par { give(i); give(j); give(k); give(l); take(e); take(f); take(g); take(h); }"
+    " on tile[3] : par { give(m); give(n); give(o); give(p); take(i); take(j); take(k); take(l); } } return 0; }\n",
+}
+
 # Right sides of assignments.
 EXPRESSIONS = (
     "x", "x + y", "x - 1", "-x", "!x", "x * y + 1", "x - (y - x)", "(x + y) * (x - y)", "x / y", "x >> 3", "x < y", "x <= y", "u >= v", "x && y",

@@ -98,7 +98,7 @@ class Scripts(unittest.TestCase):
     def test_help(self):
         """Each tells its words, and README has a row for each."""
         names = sorted(it.name for it in os.scandir(os.path.join(TOP, "bench")) if it.is_file() and "." not in it.name)
-        self.assertEqual(len(names), 17)
+        self.assertEqual(len(names), 18)
         for name in names:
             self.assertIn(f"usage: bench/{name} ", self.call(name, "--help"))
         self.assertEqual(sorted(re.findall(r"^\| `(\w+)", written(os.path.join(TOP, "bench", "README.md")), re.MULTILINE)), names)
@@ -195,17 +195,23 @@ class Scripts(unittest.TestCase):
         self.assertEqual([row["waits"] for row in rows], ["often", "seldom"])
         self.assertIn("here, ms", rows[0])
 
-    def test_selects_that_are_refused(self):
+    def test_links(self):
+        rows = self.tables("links")["four cores"]
+        self.assertEqual([row["four cores"] for row in rows], ["ring of four", "ring of 32", "pairs"])
+        self.assertIn("here, ms", rows[0])
+
+    def test_programs_that_are_refused(self):
         """Then nothing is stored."""
         built = ("crates", "xcsim", "out", "xcsim")
         self.addCleanup(self.put, written(os.path.join(self.top, *built)), self.top, *built)
         self.put(REFUSES, self.top, *built)
-        stored = os.path.join(self.top, "bench", "results", "selects.jsonl")
-        before = written(stored) if os.path.exists(stored) else ""
-        done = subprocess.run([f"{self.top}/bench/selects"], capture_output=True, text=True, check=False)
-        self.assertEqual((done.returncode, done.stdout), (1, ""))
-        self.assertRegex(done.stderr, r"\Abench/selects: xcsim refuses the program, and nothing was measured: .*:1:1: rule 299\n\Z")
-        self.assertEqual(written(stored) if os.path.exists(stored) else "", before)
+        for name in ("selects", "links"):
+            stored = os.path.join(self.top, "bench", "results", f"{name}.jsonl")
+            before = written(stored) if os.path.exists(stored) else ""
+            done = subprocess.run([f"{self.top}/bench/{name}"], capture_output=True, text=True, check=False)
+            self.assertEqual((done.returncode, done.stdout), (1, ""))
+            self.assertRegex(done.stderr, rf"\Abench/{name}: xcsim refuses the program, and nothing was measured: .*:1:1: rule 299\n\Z")
+            self.assertEqual(written(stored) if os.path.exists(stored) else "", before)
 
     @unittest.skipUnless(shutil.which("cc") and shutil.which("gcc"), "there is no C compiler")
     def test_with_an_interpreter(self):
@@ -218,6 +224,7 @@ class Scripts(unittest.TestCase):
         self.assertIn("interpreter, ms", found["eight threads"][0])
         for name in ("waiting", "selects"):
             self.assertEqual(self.tables(name, source)["eight threads"][0]["same trace"], "yes")
+        self.assertEqual(self.tables("links", source)["four cores"][0]["same trace"], "yes")
 
     @unittest.skipUnless(shutil.which("cc"), "there is no C compiler")
     def test_refuse_memory(self):
