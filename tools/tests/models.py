@@ -1,7 +1,8 @@
 """What the examples output: worked out here from what each program is to compute, and never by running xcsim.
 
 A model gives (tick, port, value) for each output, in order, taken(value) for each word that is taken from a channel, and Read(tick, port,
-value) for each input from a port. What it reads are the pins of the example's stimulus, which is told here too."""
+value) for each input from a port. A port of another core than 0 has the core in front, as 3:8A. What is read are the pins of the example's
+stimulus, which is told here too."""
 
 import binascii
 import math
@@ -17,8 +18,13 @@ class Read(NamedTuple):
     value: int
 
 
-def taken(word):
-    return (None, None, word)
+class Taken(NamedTuple):
+    word: int
+    core: int
+
+
+def taken(word, core=0):
+    return Taken(word, core)
 
 
 def edges_of(outputs):
@@ -97,11 +103,27 @@ def filters():
     return made
 
 
+def gather():
+    sent = sorted((pace * i, core) for core, pace in enumerate([1000, 1700, 2300], 1) for i in (1, 2, 3))
+    made = []
+    for number, (time, core) in enumerate(sent, 1):
+        shown = [(time + 50, f"{core}:1A", 1), (time + 100, "8A", number), (time + 150, f"{core}:1A", 0)]
+        made += [taken(time), *shown]
+    return made
+
+
 def gcd():
     made = []
     for tick, a, b in [(2000, 1071, 462), (4000, 4000000000, 3000000000), (6000, 2971215073, 1836311903)]:
         made += [(tick, "32A", a), (tick + 100, "32A", b), (tick + 200, "32A", math.gcd(a, b))]
     return made
+
+
+def greatest():
+    numbers = [17, 5, 42, 23]
+    first = [taken(max(numbers[:core]), core % 4) for core in range(1, 5)]
+    second = [taken(max(numbers), core % 4) for core in range(1, 5)]
+    return [*first, *second, *((2000, f"{core}:8A", max(numbers)) for core in range(4))]
 
 
 def lanes():
@@ -151,6 +173,16 @@ def packets():
         for i, (tick, _, bit) in enumerate(frames_of(start, text)):
             made.append(Read(tick if i % 10 == 0 else tick + 434, "1B", bit))  # the edge of a start bit, else the middle
         made += [(made[-1].tick + 5000 + 200 * i, "8A", byte) for i, byte in enumerate(text, 1)]
+    return made
+
+
+def pipeline():
+    made, squares = [], [0, 0, 0]
+    for i in range(1, 11):
+        sample = i * 7 % 16 - 8
+        squares.append(sample**2)
+        mean = sum(squares[-4:]) // 4
+        made += [(1000 * i, "1A", i), taken(sample, 1), taken(squares[-1], 2), taken(mean, 3), (1000 * i + 500, "3:8A", mean)]
     return made
 
 
@@ -244,12 +276,15 @@ MODELS = {
     "dimmer": dimmer,
     "divide": divide,
     "filters": filters,
+    "gather": gather,
     "gcd": gcd,
+    "greatest": greatest,
     "lanes": lanes,
     "lights": lights,
     "meter": meter,
     "outside": outside,
     "packets": packets,
+    "pipeline": pipeline,
     "producer": producer,
     "receiver": receiver,
     "ring": ring,
@@ -278,12 +313,13 @@ def trace_of(name):
     """The trace that the model of a program gives, with its end line."""
     lines = []
     for record in MODELS[name]():
-        tick, port, value = record
-        if port is None:
-            lines.append(f"com 0 {value % 2 ** 32}\n")
+        if isinstance(record, Taken):
+            lines.append(f"com {record.core} {record.word % 2 ** 32}\n")
             continue
+        tick, place, value = record
+        core, port = place.split(":") if ":" in place else ("0", place)
         kind, width = "in" if isinstance(record, Read) else "out", int(WIDTHS.fullmatch(port).group(1))
-        lines.append(f"{kind} 0 {port} @{tick % 65536} {value % 2 ** width}\n")
+        lines.append(f"{kind} {core} {port} @{tick % 65536} {value % 2 ** width}\n")
     return "".join(lines) + ENDS.get(name, "end finished\n")
 
 

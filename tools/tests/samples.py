@@ -15,7 +15,7 @@ PROGRAMS = sorted(name[:-3] for name in os.listdir(EXAMPLES) if name.endswith(".
 
 # The examples whose forms aren't built yet: the program refuses them by rule 299, and the gate doesn't run them. Once a form is built
 # its lines leave this list, and tools/runs writes the cases of the gate anew.
-WAITING: list[str] = []
+WAITING = ["gather", "greatest", "pipeline"]
 
 PULSE = """\
 code
@@ -76,13 +76,25 @@ def listing_of(*cores: tuple[int, int, list[str]], channels: str = "") -> str:
     return "\n".join(lines) + f"\n{channels}trace\n"
 
 
+PLACE = r"on (?:tile|stdcore)\[(\d)\] : "
+
+
 def output_of_example(name: str) -> str:
-    """An output of an example: a listing with its ports and channels and without its code, and its trace."""
+    """An output of an example: a listing with its cores, ports and channels and without its code, and its trace."""
     text = written(example(f"{name}.xc"))
-    ports = re.findall(r"^(in|out) port \w+ = XS1_PORT_(\w+);", text, re.MULTILINE)
-    count = sum(names.count(",") + 1 for names in re.findall(r"^ *chan ([^;]+);", text, re.MULTILINE))
-    channels = "".join(f".chan 0 {2 * i} 0 {2 * i + 1}\n" for i in range(count))
-    return listing_of((0, 2 * count, [f"{port} {direction}" for direction, port in ports]), channels=channels) + written(example(f"{name}.trace"))
+    placed = re.findall(rf"^ *{PLACE}(\w+\(.*\));", text, re.MULTILINE)
+    ports: dict[int, list[str]] = {int(core): [] for core, _ in placed} or {0: []}
+    for core, direction, port in re.findall(rf"^(?:{PLACE})?(in|out) port \w+ = XS1_PORT_(\w+);", text, re.MULTILINE):
+        ports[int(core or 0)].append(f"{port} {direction}")
+    ends, channels = dict.fromkeys(ports, 0), ""
+    for channel in ", ".join(re.findall(r"^ *chan ([^;]+);", text, re.MULTILINE)).split(", "):
+        users = [int(core) for core, call in placed if re.search(rf"\b{channel}\b", call)] if placed else [0, 0] if channel else []
+        sides = []
+        for core in users:
+            sides.append(f" {core} {ends[core]}")
+            ends[core] += 1
+        channels += f".chan{''.join(sides)}\n" if sides else ""
+    return listing_of(*((core, ends[core], ports[core]) for core in sorted(ports)), channels=channels) + written(example(f"{name}.trace"))
 
 
 KEPT = [output_of_example(name) for name in PROGRAMS] + [written(data(name)) for name in ("two_cores.out", "script.out")]
