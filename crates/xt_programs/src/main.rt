@@ -21,13 +21,15 @@ use xw_words::List;
 /// The most bytes that come of a case's text.
 const MOST_BYTES: usize = 65_536;
 
-/// What must come of the texts of a file: listings, the runs of the examples, runs that read ports and timers, or runs with selects.
+/// What must come of the texts of a file: listings, the runs of the examples, runs that read ports and timers, runs with selects, or runs
+/// on several cores.
 #[derive(Clone, Copy)]
 enum Wanted {
     Listing,
     Run,
     Input,
     Select,
+    Cores,
 }
 
 impl Wanted {
@@ -38,6 +40,7 @@ impl Wanted {
             Wanted::Run => "runs.txt",
             Wanted::Input => "inputs.txt",
             Wanted::Select => "selects.txt",
+            Wanted::Cores => "cores.txt",
         };
         CaseFile { name, gap: "\n\n" }
     }
@@ -65,6 +68,7 @@ fn main(rt: HostRuntime) -> ExitCode {
         Wanted::Run,
         Wanted::Input,
         Wanted::Select,
+        Wanted::Cores,
     ] {
         let holds = report(rt.alloc(), &mut shelf, &mut out, wanted.file(), &wanted);
         all_hold = all_hold && holds;
@@ -80,7 +84,7 @@ fn difference_of(alloc: Global, wanted: Wanted, lines: &str) -> Result<Option<St
     let mut sink = MemSink::new(alloc, MOST_BYTES, List::new(alloc))?;
     match wanted {
         Wanted::Listing => write_listing(alloc, text, &mut sink)?,
-        Wanted::Run | Wanted::Input | Wanted::Select => {
+        Wanted::Run | Wanted::Input | Wanted::Select | Wanted::Cores => {
             write_run(alloc, text, case.stimulus.as_bytes(), &mut sink)?
         }
     }
