@@ -16,13 +16,14 @@ use std::thread::Threads;
 use xw_io::{FsShelf, Out, Shelf, Sink, StdSink};
 
 /// The files of cases.
-const FILES: [&str; 6] = [
+const FILES: [&str; 7] = [
     "words.txt",
     "texts.txt",
     "runs.txt",
     "channels.txt",
     "stimuli.txt",
     "selects.txt",
+    "cores.txt",
 ];
 
 /// Ends with 1 where a case differs, a file can't be read or the output fails.
