@@ -1,6 +1,6 @@
 """Programs that are made by chance and break no rule: from one source of chance always the same text.
 
-With all forms they have transactions and placed branches too. Nothing else that they do is known: they may err, wait for ever or never
+With all forms they have transactions too. Nothing else that they do is known: they may err, wait for ever or never
 come to an end."""
 
 from __future__ import annotations
@@ -497,7 +497,7 @@ class Writer:
         return f"{head};\n" * (self.chance.random() < 0.1) + f"{head} {{ {body}{end} }}"
 
     def program(self) -> str:
-        is_placed = self.has_all and self.chance.random() < 0.3
+        is_placed = self.chance.random() < 0.3
         lines = ["#include <xs1.h>"] * (self.chance.random() < 0.3)
         for at in range(self.chance.choice((0, 0, 0, 1, 3))):
             lines.append(f"#define N{at} {self.chance.choice(NUMBERS)}")

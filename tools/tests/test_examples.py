@@ -127,7 +127,7 @@ class Pages(unittest.TestCase):
 
     def test_what_the_gate_runs_of_the_language(self):
         page = self.page("docs", "language.md")
-        for section, cases in (("Inputs and timers", "inputs.txt"), ("Selects", "selects.txt")):
+        for section, cases in (("Inputs and timers", "inputs.txt"), ("Selects", "selects.txt"), ("Cores", "cores.txt")):
             shown = re.search(rf"## {section}.*?```\n(.*?)```.*?```\n(.*?)```.*?```\n(.*?)```", page, re.DOTALL).groups()
             marked = ["".join(f"{mark} {line}\n" for line in part.splitlines()) for mark, part in zip(("|", "stim", "="), shown)]
             self.assertIn("case the example of docs/language.md\n" + "".join(marked), self.page("crates", "xt_programs", "data", cases))

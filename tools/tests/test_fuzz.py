@@ -90,13 +90,13 @@ class Made(unittest.TestCase):
         for number in range(25):
             text, whole = (generate.program(Random(number), it).encode() for it in (False, True))
             self.assertFalse(verdicts.is_unbuilt(text))
-            found.update(re.findall(rb"\b(?:master|on|slave)\b", whole))
-        self.assertEqual(len(found), 3)
+            found.update(re.findall(rb"\b(?:master|slave)\b", whole))
+        self.assertEqual(len(found), 2)
 
     def test_what_is_not_built(self):
         page = "What isn't built yet is what a text\ntells by one of the words `master slave`. Rule 299 is broken"
         self.assertEqual(verdicts.words_of_rule_299(page), ["master", "slave"])
-        self.assertLessEqual(set(verdicts.UNBUILT), {"master", "on", "slave"})
+        self.assertLessEqual(set(verdicts.UNBUILT), {"master", "slave"})
 
     def test_each_name_is_declared_once_in_its_block(self):
         """The block of a function has its parameters too; the heads of loops are scopes of their own."""
