@@ -9,7 +9,7 @@ use Rattle.xc_tree.specs.Tables as tables
 use Rattle.xc_tree.specs.Words as words
 use Rattle.xc_today.specs.Today.{later_words, IsSupported}
 
-spelled_words : map (place_in tables.words) (codes "master" ∷ codes "on" ∷ codes "slave" ∷ []) ≡ map Some later_words
+spelled_words : map (place_in tables.words) (codes "master" ∷ codes "slave" ∷ []) ≡ map Some later_words
 unfolding tables.words place_from
 spelled_words = refl
 
@@ -26,35 +26,38 @@ master_is_later h = h.0.0 refl
 
 -- `slave {`
 slave_is_later : IsSupported (tokens (Key words.slave_word ∷ Sym symbols.brace ∷ [])) → ⊥
-slave_is_later h = h.0.1.1.0 refl
-
--- `on tile`, in front of a branch
-placed_branch_is_later : IsSupported (tokens (Key words.par_word ∷ Sym symbols.brace ∷ Key words.on_word ∷ Key words.tile_word ∷ [])) → ⊥
-placed_branch_is_later h = h.1.1.0.1.0 refl
+slave_is_later h = h.0.1.0 refl
 
 -- Of today.
 
 -- `par {`
 par_is_of_today : IsSupported (tokens (Key words.par_word ∷ Sym symbols.brace ∷ []))
-par_is_of_today = ((λ e. absurd (cc), (λ e. absurd (cc), (λ e. absurd (cc), tt))), (tt, tt))
+par_is_of_today = ((λ e. absurd (cc), (λ e. absurd (cc), tt)), (tt, tt))
+
+-- `on tile`, in front of a branch
+placed_branch_is_of_today : IsSupported (tokens (Key words.par_word ∷ Sym symbols.brace ∷ Key words.on_word ∷ Key words.tile_word ∷ []))
+placed_branch_is_of_today = (
+  (λ e. absurd (cc), (λ e. absurd (cc), tt)),
+  (tt, ((λ e. absurd (cc), (λ e. absurd (cc), tt)), ((λ e. absurd (cc), (λ e. absurd (cc), tt)), tt))),
+)
 
 -- `select {`
 select_is_of_today : IsSupported (tokens (Key words.select_word ∷ Sym symbols.brace ∷ []))
-select_is_of_today = ((λ e. absurd (cc), (λ e. absurd (cc), (λ e. absurd (cc), tt))), (tt, tt))
+select_is_of_today = ((λ e. absurd (cc), (λ e. absurd (cc), tt)), (tt, tt))
 
 -- `chan c ;`
 channel_is_of_today : IsSupported (tokens (Key words.chan_word ∷ Name (codes "c") ∷ Sym symbols.semicolon ∷ []))
-channel_is_of_today = ((λ e. absurd (cc), (λ e. absurd (cc), (λ e. absurd (cc), tt))), (tt, (tt, tt)))
+channel_is_of_today = ((λ e. absurd (cc), (λ e. absurd (cc), tt)), (tt, (tt, tt)))
 
 -- `timer t ;`
 timer_is_of_today : IsSupported (tokens (Key words.timer_word ∷ Name (codes "t") ∷ Sym symbols.semicolon ∷ []))
-timer_is_of_today = ((λ e. absurd (cc), (λ e. absurd (cc), (λ e. absurd (cc), tt))), (tt, (tt, tt)))
+timer_is_of_today = ((λ e. absurd (cc), (λ e. absurd (cc), tt)), (tt, (tt, tt)))
 
 -- `in port p`
 in_port_is_of_today : IsSupported (tokens (Key words.in_word ∷ Key words.port_word ∷ Name (codes "p") ∷ []))
 in_port_is_of_today = (
-  (λ e. absurd (cc), (λ e. absurd (cc), (λ e. absurd (cc), tt))),
-  ((λ e. absurd (cc), (λ e. absurd (cc), (λ e. absurd (cc), tt))), (tt, tt)),
+  (λ e. absurd (cc), (λ e. absurd (cc), tt)),
+  ((λ e. absurd (cc), (λ e. absurd (cc), tt)), (tt, tt)),
 )
 
 -- `p <: 1 @ t`

@@ -5,9 +5,9 @@ use Rattle.xc_tree.specs.declared.token.Kind.{Kind}
 use Rattle.xc_tree.specs.declared.token.Kind.TheVariants.{Name, Num, Key, Sym}
 use Rattle.xc_tree.specs.Words as words
 
--- The words of later forms, by their places in `WORDS`. `on` is on the list by itself, and no symbol is a later form's.
+-- The words of later forms, by their places in `WORDS`. No symbol is a later form's.
 abbrev pub later_words : List ℕ
-later_words = words.master_word ∷ words.on_word ∷ words.slave_word ∷ []
+later_words = words.master_word ∷ words.slave_word ∷ []
 
 -- a place that is none of these
 abbrev pub IsNoneOf : List ℕ → ℕ → Type 0

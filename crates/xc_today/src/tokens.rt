@@ -3,11 +3,11 @@
 ghost use Rattle.std.specs.Prelude.{IsTrue, ◌↔◌};
 ghost use Rattle.xc_today.specs.Today as today;
 
-use xc_tree::words::{MASTER_WORD, ON_WORD, SLAVE_WORD};
+use xc_tree::words::{MASTER_WORD, SLAVE_WORD};
 use xc_tree::{Kind, Tok};
 
 /// The words of later forms.
-const LATER_WORDS: [u8; 3] = [MASTER_WORD, ON_WORD, SLAVE_WORD];
+const LATER_WORDS: [u8; 2] = [MASTER_WORD, SLAVE_WORD];
 
 /// Whether the program that tokens are is built today: no word of a later form stands among them.
 pub fn is_supported(toks: &[Tok]) -> bool

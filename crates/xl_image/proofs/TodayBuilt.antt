@@ -1,7 +1,6 @@
--- Kernels are built so far whose programs are built today: no statement of a later form is in them. As no branch is placed, main is
--- the one root, and no channel leaves it.
-use Rattle.std.proofs.lemmas.Option.{same_Some}
-use Rattle.std.proofs.Common.{◌≡◌, ℕ, zero, suc, Bool, true, false, ◌&&◌, ◌||◌, List, [], ◌∷◌, length, Option, None, Some, is_some, slice_get, nat_lt, refl, sym, ap, subst, ◌∙◌, true≢false}
+-- Kernels are built so far whose programs are built today: no statement of a later form is in them.
+use Rattle.std.proofs.Common.{ℕ, zero, suc, ◌+◌, ◌-◌, Bool, true, false, List, [], ◌∷◌, ◌++◌, length, Option, None, Some, sym, subst}
+use Rattle.xw_words.specs.declared.pos.Pos.{Pos}
 use Rattle.xc_tree.specs.Derives.{unlimited}
 use Rattle.xc_tree.specs.Plain as tree
 use Rattle.xc_kernel.specs.declared.kernel.PortUse.{PortUse}
@@ -9,79 +8,95 @@ use Rattle.xc_kernel.specs.declared.statement.KRes.{KRes}
 use Rattle.xc_kernel.specs.declared.statement.KRes.TheVariants.{Port, Timer as Clock, Chan}
 use Rattle.xc_kernel.specs.Plain as kernel
 use Rattle.xc_kernel.specs.Numbering.{Numbering}
+use Rattle.xc_kernel.specs.Scopes.{Scope, a_constant, with_name}
 use Rattle.xc_kernel.specs.Programs.{Function, functions, main_of, name_of_main}
-use Rattle.xc_kernel.specs.Context.{Context}
+use Rattle.xc_kernel.specs.Context.{Context, in_branch}
+use Rattle.xc_kernel.specs.Ports.{core_of}
 use Rattle.xc_kernel.specs.Calls.{CopiesCall, function_copy}
-use Rattle.xc_kernel.specs.Statements.{statement_copy}
-use Rattle.xc_kernel.specs.Roots.{Rooted, is_placed, has_placed, action_has_placed, block_has_placed, in_block, context_of, roots_by, roots_of}
+use Rattle.xc_kernel.specs.Statements.{branch_copy, statement_copy}
+use Rattle.xc_kernel.specs.Roots.{Rooted, action_roots, block_has_placed, block_roots, branch_root, branch_roots, context_of, in_block, numbered_roots, roots_by, roots_of}
 use Rattle.xc_kernel.specs.Copies.{calls_of, rooted, copy_of}
 use Rattle.xc_wellformed.specs.Each.{AnyExpression, AnyPlace, AnyNumber, EachStatement, EachOf, EachCase, EachDefault, EachBranch, EachRoot}
 use Rattle.xc_wellformed.specs.Transfers.{OutputGoes, GoesOut, ComesIn}
 use Rattle.xc_wellformed.proofs.Formed.{transfers_right}
 use Rattle.xc_wellformed.proofs.Grammar.{AllOf, MaybeOf}
 use Rattle.xl_statements.specs.Built.{IsSent, IsBuilt, AreBuilt, BranchesAreBuilt, CasesAreBuilt, DefaultIsBuilt}
-use Rattle.xl_image.specs.Roots.{RootsAreBuilt, StayOnCores}
+use Rattle.xl_image.specs.Roots.{RootsAreBuilt}
 use Rattle.xl_image.specs.TodayLaws.{KernelsAreBuilt}
 use Rattle.xl_image.proofs.TodayEarly.{IsEarlyAction, IsEarly, AreEarly, IsEarlyBranch, AreEarlyBranches, IsEarlyItem, program_early}
-use Rattle.xl_image.proofs.TodayCopied.{IsEarlyCode, AreEarlyCode, HaveEarlyCode, CasesHaveEarlyCode, DefaultHasEarlyCode, IsEarlyFunction, CallsEarly, as_statements, named_early, function_early, calls_early}
+use Rattle.xl_image.proofs.TodayCopied.{IsEarlyCode, AreEarlyCode, HaveEarlyCode, CasesHaveEarlyCode, DefaultHasEarlyCode, IsEarlyFunction, CallsEarly, as_statements, named_early, branch_early, function_early, calls_early}
 
 -- Roots.
 
 abbrev IsEarlyRoot : kernel.Root → Type 0
 IsEarlyRoot r = AreEarlyCode r.body
 
--- there is one root at most
-abbrev IsOneRoot : List kernel.Root → Type 0
-IsOneRoot rs = (i j : ℕ) (r s : kernel.Root) → slice_get rs i ≡ Some r → slice_get rs j ≡ Some s → i ≡ j
+abbrev IsEarlyRooted : Rooted → Type 0
+IsEarlyRooted r = AllOf IsEarlyRoot r.roots
 
-record IsEarlyRooted (r : Rooted) : Type 0 where
-  pub roots : AllOf IsEarlyRoot r.roots
-  pub one : IsOneRoot r.roots
-
-no_root_is_one : IsOneRoot []
-no_root_is_one i j r s e f = absurd (cc)
-
-root_is_one : (x : kernel.Root) → IsOneRoot (x ∷ [])
-root_is_one x zero zero r s e f = refl
-root_is_one x zero (suc j) r s e f = absurd (cc)
-root_is_one x (suc i) j r s e f = absurd (cc)
-
--- no branch is placed
-branch_unplaced : (b : tree.Branch) → IsEarlyBranch b → is_placed b ≡ false
-branch_unplaced (tree.branch place s) h = ap (λ (p : Option tree.Place). is_some p) h.0
-
-branches_unplaced : (bs : tree.Branches) → AreEarlyBranches bs → has_placed bs ≡ false
-branches_unplaced tree.no_branch h = refl
-branches_unplaced (tree.more_branches b bs) h = ap (λ x. x || has_placed bs) (branch_unplaced b h.0) ∙ branches_unplaced bs h.1
-
-action_unplaced : (a : tree.Action) → IsEarlyAction a → action_has_placed a ≡ false
-action_unplaced (tree.par bs) h = branches_unplaced bs h
-action_unplaced (tree.replicated x y z from until b) h = ap (λ c. c && nat_lt from until) (branch_unplaced b h)
-action_unplaced other h = refl
-
-block_unplaced : (ss : tree.Statements) → AreEarly ss → block_has_placed ss ≡ false
-block_unplaced tree.no_more h = refl
-block_unplaced (tree.more (tree.statement a pos close own) ss) h = ap (λ b. b || block_has_placed ss) (action_unplaced a h.0) ∙ block_unplaced ss h.1
+both_early : (rs ss : List kernel.Root) → AllOf IsEarlyRoot rs → AllOf IsEarlyRoot ss → AllOf IsEarlyRoot (rs ++ ss)
+both_early [] ss h g = g
+both_early (r ∷ rs) ss h g = (h.0, both_early rs ss h.1 g)
 
 in_block_early : (s : tree.Statement) → IsEarly s → AreEarly (in_block s)
 in_block_early (tree.statement (tree.block ss) pos close own) h = h
 in_block_early (tree.statement other pos close own) h = tt
 
--- main is the one root
-main_early : (copies : CopiesCall) → CallsEarly copies → (f : Function) (c : Context) (b : Bool) → b ≡ false → AllOf IsEarlyFunction c.functions → IsEarlyFunction f → IsEarlyRooted (roots_by copies b f c)
-main_early copies calls f c true e fs h = absurd (true≢false e)
-main_early copies calls f c false e fs h =
-    let copy = function_copy (statement_copy copies) c c.ports [] f [] in
-    let made = function_early copies calls c c.ports [] f [] fs h in
-    record { roots = (as_statements copy.code made, tt); one = root_is_one _ }
+module _ (copies : CopiesCall) (calls : CallsEarly copies) where
+  -- placed branches
+  branch_rooted : (main : Pos) (b : tree.Branch) (c : Context) (scope : Scope) →
+      AllOf IsEarlyFunction c.functions → IsEarlyBranch b → IsEarlyRooted (branch_root copies main b c scope)
+  branch_rooted main (tree.branch place s) c scope fs h =
+      let d : Context = record c { core = core_of scope place } in
+      (as_statements (branch_copy copies (tree.branch place s) d scope).code (branch_early copies calls (tree.branch place s) d scope fs h), tt)
 
-some_early : (copies : CopiesCall) → CallsEarly copies → (c : Context) (o : Option Function) → AllOf IsEarlyFunction c.functions → MaybeOf IsEarlyFunction o → IsEarlyRooted (roots_of copies o c)
-some_early copies calls c None fs h = record { roots = tt; one = no_root_is_one }
-some_early copies calls c (Some f) fs h =
-    main_early copies calls f c (block_has_placed (in_block f.body)) (block_unplaced (in_block f.body) (in_block_early f.body h)) fs h
+  branches_rooted : (main : Pos) (bs : tree.Branches) (index : ℕ) (c : Context) (scope : Scope) →
+      AllOf IsEarlyFunction c.functions → AreEarlyBranches bs → IsEarlyRooted (branch_roots copies main bs index c scope)
+  branches_rooted main tree.no_branch index c scope fs h = tt
+  branches_rooted main (tree.more_branches b bs) index c scope fs h =
+      let first = branch_root copies main b (in_branch c index) scope in
+      both_early first.roots (branch_roots copies main bs (index + 1) c first.made.scope).roots
+      (branch_rooted main b (in_branch c index) scope fs h.0) (branches_rooted main bs (index + 1) c first.made.scope fs h.1)
+
+  numbered_rooted : (main : Pos) (b : tree.Branch) (name : List ℕ) (c : Context) (scope : Scope) (count index number : ℕ) →
+      AllOf IsEarlyFunction c.functions → IsEarlyBranch b → IsEarlyRooted (numbered_roots copies main b name c scope count index number)
+  numbered_rooted main b name c scope zero index number fs h = tt
+  numbered_rooted main b name c scope (suc count) index number fs h =
+      let inner = with_name scope name (a_constant number) in
+      both_early (branch_root copies main b (in_branch c index) inner).roots
+      (numbered_roots copies main b name c scope count (index + 1) (number + 1)).roots
+      (branch_rooted main b (in_branch c index) inner fs h) (numbered_rooted main b name c scope count (index + 1) (number + 1) fs h)
+
+  -- those of main's block
+  action_rooted : (main : Pos) (a : tree.Action) (c : Context) (scope : Scope) →
+      AllOf IsEarlyFunction c.functions → IsEarlyAction a → IsEarlyRooted (action_roots copies main a c scope)
+  action_rooted main (tree.par bs) c scope fs h = branches_rooted main bs 0 c scope fs h
+  action_rooted main (tree.replicated first second third from until b) c scope fs h =
+      numbered_rooted main b first.text c scope (until - from) 0 from fs h
+  action_rooted main other c scope fs h = tt
+
+  block_rooted : (main : Pos) (ss : tree.Statements) (c : Context) (scope : Scope) →
+      AllOf IsEarlyFunction c.functions → AreEarly ss → IsEarlyRooted (block_roots copies main ss c scope)
+  block_rooted main tree.no_more c scope fs h = tt
+  block_rooted main (tree.more (tree.statement a pos close own) ss) c scope fs h =
+      let first = action_roots copies main a c scope in
+      both_early first.roots (block_roots copies main ss c first.made.scope).roots
+      (action_rooted main a c scope fs h.0) (block_rooted main ss c first.made.scope fs h.1)
+
+  -- main itself, or its branches
+  main_early : (f : Function) (c : Context) (b : Bool) → AllOf IsEarlyFunction c.functions → IsEarlyFunction f → IsEarlyRooted (roots_by copies b f c)
+  main_early f c true fs h = block_rooted f.head.name.pos (in_block f.body) c c.ports fs (in_block_early f.body h)
+  main_early f c false fs h =
+      let copy = function_copy (statement_copy copies) c c.ports [] f [] in
+      (as_statements copy.code (function_early copies calls c c.ports [] f [] fs h), tt)
+
+  some_early : (c : Context) (o : Option Function) → AllOf IsEarlyFunction c.functions → MaybeOf IsEarlyFunction o → IsEarlyRooted (roots_of copies o c)
+  some_early c None fs h = tt
+  some_early c (Some f) fs h = main_early f c (block_has_placed (in_block f.body)) fs h
 
 rooted_early : (P : List tree.Item) (num : Numbering) → AllOf IsEarlyFunction (functions P) → IsEarlyRooted (rooted P num)
-rooted_early P num fs = some_early (calls_of P) (calls_early (length (functions P))) (context_of P num) (main_of P) fs (named_early (functions P) name_of_main fs)
+rooted_early P num fs =
+    some_early (calls_of P) (calls_early (length (functions P))) (context_of P num) (main_of P) fs (named_early (functions P) name_of_main fs)
 
 functions_early : (P : List tree.Item) → AllOf IsEarlyItem P → AllOf IsEarlyFunction (functions P)
 functions_early [] h = tt
@@ -92,11 +107,7 @@ functions_early (tree.function head s ∷ P) h = (h.0, functions_early P h.1)
 
 copy_roots : (P : List tree.Item) → AllOf IsEarlyFunction (functions P) → AllOf IsEarlyRoot (copy_of P).roots
 unfolding copy_of
-copy_roots P fs = (rooted_early P _ fs).roots
-
-copy_one : (P : List tree.Item) → AllOf IsEarlyFunction (functions P) → IsOneRoot (copy_of P).roots
-unfolding copy_of
-copy_one P fs = (rooted_early P _ fs).one
+copy_roots P fs = rooted_early P _ fs
 
 -- Transfers.
 
@@ -142,17 +153,9 @@ module _ (K : kernel.Kernel) where
   roots_built [] h g = tt
   roots_built (r ∷ rs) h g = (statements_built r.body h.0 g.0, roots_built rs h.1 g.1)
 
--- where no branch is placed, main is the one root
-stay_where_one : (K : kernel.Kernel) → IsOneRoot K.roots → StayOnCores K
-stay_where_one K one c i j r s first second uses too =
-    ap (λ (x : kernel.Root). x.core) (same_Some r s (sym first ∙ ap (slice_get K.roots) (one i j r s first second) ∙ second))
-
 pub kernels_are_built : KernelsAreBuilt
 kernels_are_built toks P n types K derived deep today typed copies =
     let early = program_early toks today unlimited 0 (length toks) P derived in
     let fs = functions_early P early in
     let roots : AllOf IsEarlyRoot K.roots = subst (λ (k : kernel.Kernel). AllOf IsEarlyRoot k.roots) (sym copies.is_copy) (copy_roots P fs) in
-    record {
-      roots = roots_built K K.roots roots (transfers_right P n types K typed deep copies);
-      stay = stay_where_one K (subst (λ (k : kernel.Kernel). IsOneRoot k.roots) (sym copies.is_copy) (copy_one P fs));
-    }
+    record { roots = roots_built K K.roots roots (transfers_right P n types K typed deep copies) }

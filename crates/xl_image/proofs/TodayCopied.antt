@@ -253,9 +253,9 @@ module _ (copies : CopiesCall) (calls : CallsEarly copies) where
         let first = statement_copy copies s c scope in
         both first (statements_copy copies ss c first.scope) (statement_early s c scope fs h.0) (statements_early ss c first.scope fs h.1)
 
-    branch_early : (b : tree.Branch) (c : Context) (scope : Scope) →
+    pub branch_early : (b : tree.Branch) (c : Context) (scope : Scope) →
         AllOf IsEarlyFunction c.functions → IsEarlyBranch b → IsEarlyCopy (branch_copy copies b c scope)
-    branch_early (tree.branch place s) c scope fs h = statement_early s c scope fs h.1
+    branch_early (tree.branch place s) c scope fs h = statement_early s c scope fs h
 
     branches_early : (bs : tree.Branches) (index : ℕ) (c : Context) (scope : Scope) →
         AllOf IsEarlyFunction c.functions → AreEarlyBranches bs → IsEarlyBranched (branches_copy copies bs index c scope)

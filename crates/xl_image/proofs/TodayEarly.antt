@@ -3,14 +3,14 @@ use Rattle.std.proofs.Common.{◌≡◌, ℕ, zero, suc, List, [], ◌∷◌, sl
 use Rattle.xc_tree.specs.declared.token.Tok.{Tok}
 use Rattle.xc_tree.specs.Plain as plain
 use Rattle.xc_tree.specs.Words as words
-use Rattle.xc_tree.specs.Symbol.{Symbol, sym, key, a_name, a_number, many, maybe, commas, program, item, body, block, block_item, decl, statement, closed, case_item, for_start, for_step, place as placed, branch, case, assign, Value, Values}
+use Rattle.xc_tree.specs.Symbol.{Symbol, sym, key, a_name, a_number, many, maybe, commas, program, item, body, block, block_item, decl, statement, closed, case_item, for_start, for_step, branch, case, assign, Value, Values}
 use Rattle.xc_tree.specs.Grammar.{Rule, Extent, rules, kept}
 use Rattle.xc_tree.specs.Derives.{Room, extent, Derives, a_sym, a_key, named, counted, by_rule, Row, done, next}
 use Rattle.xl_image.proofs.TodayRules.{EachRule, none, ◌&◌, among_each}
 use Rattle.xc_wellformed.proofs.Grammar.{AllOf, MaybeOf}
 use Rattle.xc_today.specs.Today.{later_words, IsNoneOf, KindIsSupported, IsSupported}
 
--- no transaction and no placed branch
+-- no transaction
 abbrev mutual
   pub IsEarly : plain.Statement → Type 0
   IsEarly (plain.statement action pos close own) = IsEarlyAction action
@@ -36,7 +36,7 @@ abbrev mutual
   AreEarly (plain.more s ss) = IsEarly s × AreEarly ss
 
   pub IsEarlyBranch : plain.Branch → Type 0
-  IsEarlyBranch (plain.branch place s) = (place ≡ None) × IsEarly s
+  IsEarlyBranch (plain.branch place s) = IsEarly s
 
   pub AreEarlyBranches : plain.Branches → Type 0
   AreEarlyBranches plain.no_branch = Unit {0}
@@ -71,10 +71,6 @@ all_cases : (cs : List plain.Case) → AllOf IsEarlyCase cs → AreEarlyCases (p
 all_cases [] h = tt
 all_cases (c ∷ cs) h = (h.0, all_cases cs h.1)
 
-no_place : {V : Type 0} (o : Option V) → MaybeOf (λ v. ⊥) o → o ≡ None
-no_place None h = refl
-no_place (Some v) h = absurd h
-
 all_kept : (is : List (Option plain.Item)) → AllOf (MaybeOf IsEarlyItem) is → AllOf IsEarlyItem (kept is)
 all_kept [] h = tt
 all_kept (None ∷ is) h = all_kept is h.1
@@ -97,7 +93,6 @@ Good closed = IsEarly
 Good case_item = IsEarly
 Good for_start = IsEarly
 Good for_step = IsEarly
-Good placed = λ p. ⊥
 Good branch = IsEarlyBranch
 Good case = IsEarlyCase
 Good assign = IsEarlyAction
@@ -155,13 +150,12 @@ all_keep statement =
     (λ e x g. g.1.1.1.1.1.1.1.1.1.1.1.1.1.1.0) &
     (λ e x g. (g.1.1.0, all_cases x.1.1.1.0 g.1.1.1.0)) &
     (λ e x g. absurd (no_one later_words 0 words.master_word refl g.0)) &
-    (λ e x g. absurd (no_one later_words 2 words.slave_word refl g.0)) & none
+    (λ e x g. absurd (no_one later_words 1 words.slave_word refl g.0)) & none
 all_keep closed = (λ e x g. g.0) & none
 all_keep case_item = (λ e x g. g.0) & (λ e x g. g.0) & none
 all_keep for_start = (λ e x g. g.0) & (λ e x g. tt) & none
 all_keep for_step = (λ e x g. g.0) & none
-all_keep placed = (λ e x g. no_one later_words 1 words.on_word refl g.0) & (λ e x g. no_one later_words 1 words.on_word refl g.0) & none
-all_keep branch = (λ e x g. (no_place x.0 g.0, g.1.0)) & none
+all_keep branch = (λ e x g. g.1.0) & none
 all_keep case = (λ e x g. all_early x.1.1.1.1.0 g.1.1.1.1.0) & (λ e x g. all_early x.1.1.0 g.1.1.0) & none
 all_keep assign = (λ e x g. tt) & (λ e x g. tt) & (λ e x g. tt) & (λ e x g. tt) & none
 all_keep s = nothing (rules s)

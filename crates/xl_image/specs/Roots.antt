@@ -5,7 +5,6 @@ use Rattle.xs_instr.specs.declared.instr.Instr.TheVariants.{Ldc, Setsp}
 use Rattle.xs_instr.specs.declared.instr.Reg.TheVariants.{R0}
 use Rattle.xs_instr.specs.Lines.{Line, at_pos}
 use Rattle.xc_kernel.specs.Plain as kernel
-use Rattle.xc_kernel.specs.Things.{channel, by_statements}
 use Rattle.xl_expr.specs.declared.plan.Plan.{Plan}
 use Rattle.xl_expr.specs.declared.plan.VarPlan.{VarPlan}
 use Rattle.xl_image.specs.Images.{SidedRoot}
@@ -20,16 +19,9 @@ abbrev pub RootsAreBuilt : List kernel.Root → Type 0
 RootsAreBuilt [] = Unit {0}
 RootsAreBuilt (r ∷ rs) = AreBuilt r.body × RootsAreBuilt rs
 
--- both sides of each channel are on one core
-abbrev pub StayOnCores : kernel.Kernel → Type 0
-StayOnCores k =
-    (c i j : ℕ) (r s : kernel.Root) → slice_get k.roots i ≡ Some r → slice_get k.roots j ≡ Some s →
-    by_statements (channel c) r.body ≡ true → by_statements (channel c) s.body ≡ true → r.core ≡ s.core
-
--- What is built so far: the code of each root is, and both sides of each channel are on one core.
+-- What is built so far: the code of each root is.
 pub record KernelIsBuilt (k : kernel.Kernel) : Type 0 where
   pub roots : RootsAreBuilt k.roots
-  pub stay : StayOnCores k
 
 -- a root whose code is built, with shallow expressions, few branches in each `par` and few resources in each select, and exits of blocks
 -- around them alone

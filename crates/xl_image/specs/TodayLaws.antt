@@ -12,7 +12,7 @@ use Rattle.xl_image.specs.Roots.{KernelIsBuilt}
 use Rattle.xc_today.specs.Today.{IsSupported}
 
 -- Where tokens are a program that is built today, which breaks no rule of names, types and shapes, and whose tree no node is too
--- deep in, its kernel is built so far: the code of each root is, and both sides of each channel are on one core.
+-- deep in, its kernel is built so far: the code of each root is.
 abbrev pub KernelsAreBuilt : Type 0
 KernelsAreBuilt =
     (toks : List Tok) (P : List tree.Item) (n : NamedProgram) (types : List Bool) (K : kernel.Kernel) →

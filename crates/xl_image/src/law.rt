@@ -2,8 +2,7 @@
 
 ghost use Rattle.xl_image.specs.TodayLaws.{KernelsAreBuilt};
 
-/// A kernel whose program is built today is built so far: its roots have no transaction, and their outputs go to ports or channels; and
-/// both sides of each channel are on one core, as main is the one root.
+/// A kernel whose program is built today is built so far: its roots have no transaction, and their outputs go to ports or channels.
 pub fn kernels_are_built()
     ensures { KernelsAreBuilt }
 {}
