@@ -25,7 +25,7 @@ use Rattle.xr_simulation.specs.Roles.{Role, Roles, unused, used_by}
 use Rattle.xr_simulation.specs.Runners.{Setting, Runner, IsLaidOut, IsPort, IsTimer, anyone, footprint_of, home, outside, places, plan, port_place, timer_place}
 use Rattle.xr_simulation.specs.Plain.{ArePlain}
 use Rattle.xr_simulation.specs.MatchStates.{living_on}
-use Rattle.xr_simulation.specs.Wired.{AreSidesOn, IsLine}
+use Rattle.xr_simulation.specs.Wired.{IsLine}
 use Rattle.xr_channels.specs.Channels.{IsWired, end_of_side}
 use Rattle.xc_kernel.specs.declared.kernel.Timer.{Timer}
 
@@ -69,14 +69,13 @@ IsRootRole g unused = Unit {0}
 IsRootRole g (used_by r None) = (root : kernel.Root) × IsRoot g r root
 IsRootRole g other = ⊥
 
--- Each channel with two sides has its line in the image, with the ends of its sides; one that a core uses has both there.
+-- Each channel with two sides has its line in the image, with the ends of its sides.
 pub record AreLines (g : Setting) : Type 0 where
   pub valid : Valid g.image
   pub wired : IsWired g.image.chans
   pub line : (line c : ℕ) → IsLine g.program line c → slice_get g.image.chans line ≡ Some (pair_of g.program c)
   pub channel : (line : ℕ) (p : Pair) → slice_get g.image.chans line ≡ Some p → (c : ℕ) × IsLine g.program line c
   pub used : (core c : ℕ) → c < length g.program.channels → is_used_on g.program core c ≡ true → (line : ℕ) × IsLine g.program line c
-  pub near : (core c : ℕ) → c < length g.program.channels → is_used_on g.program core c ≡ true → AreSidesOn g.program c core
   pub ends : (line : ℕ) (p : Pair) (side : Side) → slice_get g.image.chans line ≡ Some p →
       (end_of_side p side).end < (parts_in g.image.cores (end_of_side p side).core).ends
 

@@ -15,7 +15,7 @@ use xl_image::image;
 use xs_instr::Image;
 use xw_words::Memory;
 
-/// The image of a checked kernel that is built so far: the code of its roots is, and both sides of each channel are on one core. It can be
+/// The image of a checked kernel that is built so far: the code of its roots is, on whatever cores they are. It can be
 /// loaded, and it implements the kernel: what a machine with it does under a stimulus, whatever the order of its events, is what the kernel may do.
 /// It waits only where the kernel does, and doesn't go on and on without it; and all that is so of the text of which this is the kernel.
 ///

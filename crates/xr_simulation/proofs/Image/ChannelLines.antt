@@ -15,14 +15,13 @@ use Rattle.xc_disjoint.specs.Rules.{apart}
 use Rattle.xc_meaning.specs.States.Channels.{Side, first, second}
 use Rattle.xc_meaning.proofs.Basics.{none_given, some_given}
 use Rattle.xl_image.specs.Images.{IsImage, is_used, one_root_uses, pair_of, pair_where, pairs_below}
-use Rattle.xl_image.specs.Roots.{StayOnCores}
 use Rattle.xl_plan.specs.Layout.{is_used_on}
 use Rattle.xl_plan.proofs.TwoSides.{two_sides}
 use Rattle.xr_match.specs.Sides.{two_sided, two_sided_among, where_so}
 use Rattle.xr_simulation.specs.Images.{AreLines}
 use Rattle.xr_simulation.specs.Runners.{Setting}
 use Rattle.xr_simulation.specs.Wired.{IsLine}
-use Rattle.xr_simulation.proofs.Image.Sides.{known, sides_on}
+use Rattle.xr_simulation.proofs.Image.Sides.{known}
 use Rattle.xr_channels.specs.Channels.{end_of_side}
 use Rattle.xr_channels.proofs.All.Wired.{valid_wired}
 
@@ -84,7 +83,7 @@ pair_there ks (q ∷ qs) zero p h e first = subst (λ (x : Pair). x.end < (parts
 pair_there ks (q ∷ qs) zero p h e second = subst (λ (x : Pair). x.peer_end < (parts_in ks x.peer_core).ends) (some_given e) h.1
 pair_there ks (q ∷ qs) (suc line) p h e side = pair_there ks qs line p h.2 e side
 
-module _ (g : Setting) (checked : IsChecked g.program) (is : IsImage g.program g.image) (valid : Valid g.image) (stay : StayOnCores g.program) where
+module _ (g : Setting) (checked : IsChecked g.program) (is : IsImage g.program g.image) (valid : Valid g.image) where
   -- a channel has two sides where it is used
   two_is_used : (c : ℕ) → c < length g.program.channels → has_two_sides g.program c ≡ is_used g.program c
   two_is_used c lt = two_sides g.program (λ b h. checked.unbroken b (apart h)) c lt ∙ sym (uses_root c g.program.roots)
@@ -102,6 +101,5 @@ module _ (g : Setting) (checked : IsChecked g.program) (is : IsImage g.program g
     line = λ line c e. ap (λ l. slice_get l line) chans_are ∙ slice_get-map (pair_of g.program) (two_sided g.program) line ∙ ap (option_map (pair_of g.program)) e;
     channel = λ line p e. of_channel g.program (two_sided g.program) line p (ap (λ l. slice_get l line) (sym chans_are) ∙ e);
     used = used_at;
-    near = λ core c lt used. sides_on g.program core c used stay;
     ends = λ line p side e. pair_there g.image.cores g.image.chans line p valid.pairs e side;
   }

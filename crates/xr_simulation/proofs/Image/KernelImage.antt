@@ -154,7 +154,7 @@ module _ (K : kernel.Kernel) (L : Image) (checked : IsChecked K) (is : IsImage K
       obeys = checked_obey K checked;
       plain = plain_begins K built.roots;
       sides = start_sides K;
-      lines = lines_are g checked is valid built.stay;
+      lines = lines_are g checked is valid;
       roles = is_root_role;
       core = λ c t r e. ap (λ (x : Runner). x.core) (known_runner c t r e).is;
       thread = λ c t r e. ap (λ (x : Runner). x.thread) (known_runner c t r e).is;

@@ -1,5 +1,5 @@
--- The cores of a channel's sides: the plan has those that the laws of runs have. Where all roots that use it are on one core, both are there.
-use Rattle.std.proofs.Common.{◌≡◌, ◌⊎◌, inl, inr, ⊎_elim, ℕ, zero, suc, Bool, true, false, List, [], ◌∷◌, Option, Some, None, slice_get, refl, sym, ap, subst, ◌∙◌, true≢false, arith}
+-- The cores of a channel's sides: the plan has those that the laws of runs have.
+use Rattle.std.proofs.Common.{◌≡◌, ◌⊎◌, inl, inr, ⊎_elim, ℕ, zero, suc, Bool, true, false, List, [], ◌∷◌, Option, Some, None, slice_get, refl, sym, ap, ◌∙◌, true≢false, arith}
 use Rattle.std.specs.Prelude.{◌&&◌, ◌||◌, cond, nat_eq}
 use Rattle.xc_kernel.specs.Plain as kernel
 use Rattle.xc_kernel.specs.Things.{channel, by_statements}
@@ -7,10 +7,8 @@ use Rattle.xc_meaning.specs.States.Channels.{Side, first, second}
 use Rattle.xc_meaning.proofs.Basics.{none_given, some_given}
 use Rattle.xc_invariants.specs.OnSides.{first_core, last_core, side_core}
 use Rattle.xl_image.specs.Images.{one_root_uses}
-use Rattle.xl_image.specs.Roots.{StayOnCores}
 use Rattle.xl_plan.specs.declared.channels.SideCores.{SideCores}
 use Rattle.xl_plan.specs.Layout.{core_in, core_of, is_used_by, is_used_on, second_or, side_cores}
-use Rattle.xr_simulation.specs.Wired.{AreSidesOn}
 
 both_true : (a b : Bool) → (a && b) ≡ true → (a ≡ true) × (b ≡ true)
 both_true true b e = (refl, e)
@@ -95,39 +93,7 @@ cores_agree K c second = second_is c 0 K.roots ∙ by (side_cores c K.roots)
     by None = refl
     by (Some cores) = refl
 
-module _ (c core : ℕ) where
-  -- each root that uses it is on the core
-  abbrev UsersOn : List kernel.Root → Type 0
-  UsersOn rs = (i : ℕ) (r : kernel.Root) → slice_get rs i ≡ Some r → by_statements (channel c) r.body ≡ true → r.core ≡ core
-
-  abbrev CoresAre : Option SideCores → Type 0
-  CoresAre None = Unit {0}
-  CoresAre (Some cores) = (cores.first ≡ core) × (cores.second ≡ core)
-
-  last_here : (own : ℕ) (others : Option SideCores) → own ≡ core → CoresAre others → second_or own others ≡ core
-  last_here own None e h = e
-  last_here own (Some cores) e h = h.1
-
-  cores_here : (rs : List kernel.Root) → UsersOn rs → CoresAre (side_cores c rs)
-  cores_here [] on = tt
-  cores_here (r ∷ rs) on = by (by_statements (channel c) r.body) refl (cores_here rs (λ i q. on (suc i) q))
-    where
-      by : (b : Bool) → by_statements (channel c) r.body ≡ b → CoresAre (side_cores c rs) → CoresAre (cond b (Some (cores_of c r rs)) (side_cores c rs))
-      by true e behind = let own = on 0 r refl e in (own, last_here r.core (side_cores c rs) own behind)
-      by false e behind = behind
-
 -- Of a channel that is used on a core, the cores of the sides are known.
 module _ (K : kernel.Kernel) (core c : ℕ) (used : is_used_on K core c ≡ true) where
   pub known : HasCores c K.roots
   known = let u = user_on core c K.roots used in cores_known c K.roots u.0 u.1 u.2 u.4
-
-  -- where both stay on one core, both are there
-  module _ (stay : StayOnCores K) where
-    both : CoresAre c core (Some known.cores)
-    both =
-        let u = user_on core c K.roots used in
-        subst (CoresAre c core) known.are (cores_here c core K.roots (λ i r e uses. stay c i u.0 r u.1 e u.2 uses u.4 ∙ u.3))
-
-    pub sides_on : AreSidesOn K c core
-    sides_on first = ap (λ o. core_in o first) known.are ∙ both.0
-    sides_on second = ap (λ o. core_in o second) known.are ∙ both.1
