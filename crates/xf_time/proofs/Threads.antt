@@ -129,6 +129,6 @@ cores_below (line ∷ more) routes number k r e h =
     (λ i f g. cores_below more (with_line routes (form line)) (number + 1) i r f g) e h
 
 pub numbers_hold : NumbersHold
-numbers_hold L s text numbers k r t n long after are here number below h =
+numbers_hold L text numbers are s k r t n long after here number below h =
     let few = cores_below (lines text) 0 1 k r are.formed here in
     bounds_hold L s r.route t n long after few below (are.are.each k r long here number) h

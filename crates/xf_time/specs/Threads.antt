@@ -31,9 +31,12 @@ BoundsHold =
     (L : Image) (s : Stim) (route : Route) (t n long : ℕ) (after : Thread) → route.core < 4 → t < 8 → IsNumberOf L route long →
     SetsOut L s route t n after → StepsWithin L s route t n long after
 
--- each number of a text's routes does so, for its route
+-- each of these numbers does so for the route of its place in the text, under every stimulus
+abbrev pub AreKept : Image → (text numbers : List ℕ) → Type 0
+AreKept L text numbers =
+    (s : Stim) (k : ℕ) (r : RouteLine) (t n long : ℕ) (after : Thread) → slice_get (routes_of text) k ≡ Some r →
+    slice_get numbers k ≡ Some long → t < 8 → SetsOut L s r.route t n after → StepsWithin L s r.route t n long after
+
+-- the bounds of a text's routes do
 abbrev pub NumbersHold : Type 0
-NumbersHold =
-    (L : Image) (s : Stim) (text numbers : List ℕ) (k : ℕ) (r : RouteLine) (t n long : ℕ) (after : Thread) →
-    AreBounds L text numbers → slice_get (routes_of text) k ≡ Some r → slice_get numbers k ≡ Some long → t < 8 →
-    SetsOut L s r.route t n after → StepsWithin L s r.route t n long after
+NumbersHold = (L : Image) (text numbers : List ℕ) → AreBounds L text numbers → AreKept L text numbers
