@@ -1,5 +1,5 @@
 -- The rows of the answers, for a file's name as the program has it.
-use Rattle.std.proofs.Common.{Bor, ◌≡◌, ◌≤◌, ℕ, Bool, List, Option, None, Some, sym, subst}
+use Rattle.std.proofs.Common.{Bor, ◌≡◌, ◌≤◌, ℕ, Bool, List, Option, None, Some, refl, sym, subst}
 use Rattle.std.specs.Prelude.{Result, IsErrAnd}
 use Rattle.std.proofs.lemmas.Result.{err_from_is_err_and}
 use Rattle.xw_io.specs.Outside.{Rose, IsFileOf, IsMissing, IsTooLong}
@@ -8,18 +8,21 @@ use Rattle.xw_words.specs.declared.pos.Broken.{Broken}
 use Rattle.xc_kernel.specs.Plain.{Kernel}
 use Rattle.xs_instr.specs.declared.image.Image.{Image}
 use Rattle.xs_instr.specs.declared.image.Stim.{Stim}
+use Rattle.xf_time.specs.Bounds.{AreBounds, IsFirstBroken as IsFirstBrokenOn}
+use Rattle.xf_time.proofs.Threads.{numbers_hold}
 use Rattle.xs_instr.specs.declared.trace.EndWord.{EndWord}
 use Rattle.xs_instr.specs.declared.trace.Record.{Record}
 use Rattle.xs_instr.specs.Valid.{IsGoodStim}
-use Rattle.xr_driver.specs.Answers.{Decided, Outcome, missing, too_long, read_fault, refused, bad_stim, checked, assembled, ran, no_memory, says, prints, status_of_run}
-use Rattle.xr_driver.specs.Command.{Command, Run, Asm, Check, file_of, stim_of}
+use Rattle.xr_driver.specs.Answers.{Decided, Outcome, missing, too_long, read_fault, refused, bad_stim, checked, assembled, ran, timed, bad_route, no_memory, says, prints, prints_and_says, status_of_run}
+use Rattle.xr_driver.specs.Command.{Command, Run, Asm, Check, Time, file_of, route_file_of, second_of, stim_of}
 use Rattle.xr_driver.specs.Decision.{command_of}
 use Rattle.xr_driver.specs.declared.words.Command.TheVariants.{Run as RunCommand}
-use Rattle.xr_driver.specs.Due.{IsDue, IsStimDue, of_text}
-use Rattle.xr_driver.specs.Lines.{accepted_line, bad_line, broken_line, code_section, no_file_line, no_memory_line, read_fault_line, run_output, too_long_line}
+use Rattle.xr_driver.specs.Due.{HasAccepted, IsDue, of_text}
+use Rattle.xr_driver.specs.Lines.{accepted_line, bad_line, broken_line, code_section, no_file_line, no_memory_line, read_fault_line, run_output, time_output, too_long_line}
 use Rattle.xr_driver.specs.Outside.{Loads}
-use Rattle.xr_driver.specs.Parts.{AreRead, IsAnswer, IsAnswerOn, IsAnswerWith}
+use Rattle.xr_driver.specs.Parts.{AreInputs, AreRead, IsAnswer, IsAnswerOn, IsAnswerWith, IsTextAt}
 use Rattle.xr_driver.specs.Reads.{IsKernelIn, RefusesOf, refusal_of}
+use Rattle.xr_driver.specs.declared.files.Inputs.{Inputs}
 use Rattle.xr_driver.specs.declared.files.Refused.{Refused}
 use Rattle.xr_driver.specs.Runs.{IsCompiled, IsRunFor, IsStimOf, no_stim, unnamed}
 use Rattle.xr_driver.proofs.ProgramRuns.{run_beside}
@@ -58,80 +61,139 @@ refused_at shelf c name is text b told first words meant =
     subst (λ n. Decided words shelf (says 1 (broken_line n b))) (sym is)
     (refused c text b meant (subst (λ n. IsFileOf shelf.files n text) is told) first)
 
-pub bad_line_at : (shelf : Loads) (c : Command) (name : List ℕ) → IsStimDue shelf.files c name → (text : List ℕ) (line rule : ℕ) →
-    IsFileOf shelf.files name text → IsFirstBroken text line rule → IsAnswer shelf c (says 10 (bad_line name line rule))
-bad_line_at shelf c name due text line rule told first words meant =
-    bad_stim name line rule (record { c = c; meant = meant; due = due; text = text; told = told; first = first })
+pub bad_line_at : (shelf : Loads) (c : Command) (name : List ℕ) → HasAccepted shelf.files c → stim_of c ≡ Some name →
+    (text : List ℕ) (line rule : ℕ) → IsFileOf shelf.files name text → IsFirstBroken text line rule →
+    IsAnswer shelf c (says 10 (bad_line name line rule))
+bad_line_at shelf c name accepted names text line rule told first words meant =
+    bad_stim name line rule (record {
+      c = c;
+      meant = meant;
+      accepted = accepted;
+      names = names;
+      text = text;
+      told = told;
+      first = first;
+    })
 
--- once the text is read, the stimulus's file is due
-pub stim_due : (files : Option (List File)) (c : Command) (name stim : List ℕ) (K : Kernel) → name ≡ file_of c → IsKernelIn files name K →
-    stim_of c ≡ Some stim → IsStimDue files c stim
-stim_due files c name stim K is read names = record {
-  text = read.text;
-  told = subst (λ n. IsFileOf files n read.text) is read.told;
-  program = read.kernel.program;
-  accepted = read.kernel.accepted;
-  names = names;
-}
+-- the file of the stimulus, and that of the routes, is the one that is named behind the text's
+pub stim_is_second : (c : Command) (name : List ℕ) → stim_of c ≡ Some name → second_of c ≡ Some name
+stim_is_second (Run file ticks stim) name e = e
+stim_is_second (Asm file) name e = absurd (cc)
+stim_is_second (Check file) name e = absurd (cc)
+stim_is_second (Time file routes) name e = absurd (cc)
 
--- no file is named for the stimulus
-pub no_stim_at : (files : Option (List File)) (name : Option (List ℕ)) (s : Stim) → name ≡ None → s ≡ no_stim → IsStimOf files name s
-no_stim_at files name s none is = subst (λ n. IsStimOf files n s) (sym none) (subst (λ x. IsStimOf files None x) (sym is) unnamed)
+pub route_file_is_second : (c : Command) (name : List ℕ) → route_file_of c ≡ Some name → second_of c ≡ Some name
+route_file_is_second (Run file ticks stim) name e = absurd (cc)
+route_file_is_second (Asm file) name e = absurd (cc)
+route_file_is_second (Check file) name e = absurd (cc)
+route_file_is_second (Time file routes) name e = e
 
--- a later moment of the shelf has the same files
-pub stim_at : (files later : Option (List File)) (o : Option (List ℕ)) (name : List ℕ) (s : Stim) → later ≡ files → o ≡ Some name →
-    IsStimOf later (Some name) s → IsStimOf files o s
-stim_at files later o name s same names of =
-    subst (λ n. IsStimOf files n s) (sym names) (subst (λ fs. IsStimOf fs (Some name) s) same of)
+-- a command with a stimulus names no routes
+no_routes_with_stim : (c : Command) (name : List ℕ) → stim_of c ≡ Some name → route_file_of c ≡ None
+no_routes_with_stim (Run file ticks stim) name e = refl
+no_routes_with_stim (Asm file) name e = refl
+no_routes_with_stim (Check file) name e = refl
+no_routes_with_stim (Time file routes) name e = absurd (cc)
 
--- what is answered where the stimulus is refused, since the text was loaded
+-- the text is read
+module _ (files : Option (List File)) (c : Command) (name : List ℕ) (K : Kernel) (is : name ≡ file_of c) (read : IsKernelIn files name K) where
+  pub accepted_by : HasAccepted files c
+  accepted_by = record {
+    text = read.text;
+    told = subst (λ n. IsFileOf files n read.text) is read.told;
+    program = read.kernel.program;
+    accepted = read.kernel.accepted;
+  }
+
+  -- the inputs are read then, at a later moment of the shelf, which has the same files
+  pub all_read : (inputs : Inputs) (later : Option (List File)) → later ≡ files → AreInputs later c inputs → AreRead files c K inputs
+  all_read inputs later same are = record {
+    text = read.text;
+    told = subst (λ n. IsFileOf files n read.text) is read.told;
+    kernel = read.kernel;
+    inputs_are = subst (λ fs. AreInputs fs c inputs) same are;
+  }
+
+-- a stimulus is named, or no file is, or that of the routes
+module _ (files : Option (List File)) (c : Command) (inputs : Inputs) where
+  no_stim_at : (name : Option (List ℕ)) (s : Stim) → name ≡ None → s ≡ no_stim → IsStimOf files name s
+  no_stim_at name s none is = subst (λ n. IsStimOf files n s) (sym none) (subst (λ x. IsStimOf files None x) (sym is) unnamed)
+
+  pub with_stim : (name : List ℕ) → stim_of c ≡ Some name → IsStimOf files (Some name) inputs.stim → AreInputs files c inputs
+  with_stim name names of = record {
+    stim = subst (λ o. IsStimOf files o inputs.stim) (sym names) of;
+    routes = subst (λ o. IsTextAt files o inputs.routes) (sym (no_routes_with_stim c name names)) tt;
+  }
+
+  pub with_routes : (name : List ℕ) → stim_of c ≡ None → inputs.stim ≡ no_stim → route_file_of c ≡ Some name →
+      IsFileOf files name inputs.routes → AreInputs files c inputs
+  with_routes name none is names told = record {
+    stim = no_stim_at (stim_of c) inputs.stim none is;
+    routes = subst (λ o. IsTextAt files o inputs.routes) (sym names) told;
+  }
+
+  pub without_files : stim_of c ≡ None → inputs.stim ≡ no_stim → route_file_of c ≡ None → AreInputs files c inputs
+  without_files none is no_routes = record {
+    stim = no_stim_at (stim_of c) inputs.stim none is;
+    routes = subst (λ o. IsTextAt files o inputs.routes) (sym no_routes) tt;
+  }
+
+-- what is answered where the inputs are refused, since the text was loaded
 module _ (late : Loads) (files : Option (List File)) (faults misses longs : ℕ) (same : late.files ≡ files) (f : faults ≤ late.faults)
     (m : misses ≤ late.misses) (l : longs ≤ late.longs) where
-  pub stim_refused_at : (c : Command) (name stim : List ℕ) (K : Kernel) (o : Outcome) → name ≡ file_of c → IsKernelIn files name K →
-      stim_of c ≡ Some stim → ((d : Command) → IsStimDue late.files d stim → IsAnswer late d o) → (d : Command) → d ≡ c →
+  pub inputs_refused_at : (c : Command) (name : List ℕ) (K : Kernel) (o : Outcome) → name ≡ file_of c → IsKernelIn files name K →
+      ((d : Command) → HasAccepted late.files d × (d ≡ c) → IsAnswer late d o) → (d : Command) → d ≡ c →
       IsAnswer (record late { files = files; faults = faults; misses = misses; longs = longs }) d o
-  stim_refused_at c name stim K o is read names answer d e =
-      let due = subst (λ fs. IsStimDue fs c stim) (sym same) (stim_due files c name stim K is read names) in
+  inputs_refused_at c name K o is read answer d e =
+      let accepted = subst (λ fs. HasAccepted fs c) (sym same) (accepted_by files c name K is read) in
       subst (λ k. IsAnswer (record late { files = files; faults = faults; misses = misses; longs = longs }) k o) (sym e)
-      (answered_since late files faults misses longs same f m l c o (answer c due))
+      (answered_since late files faults misses longs same f m l c o (answer c (accepted, refl)))
 
-pub both_read : (files : Option (List File)) (c : Command) (name : List ℕ) (K : Kernel) (s : Stim) → name ≡ file_of c →
-    IsKernelIn files name K → IsStimOf files (stim_of c) s → AreRead files c K s
-both_read files c name K s is read stim = record {
-  text = read.text;
-  told = subst (λ n. IsFileOf files n read.text) is read.told;
-  kernel = read.kernel;
-  stim = stim;
-}
-
-pub all_without_memory : (c : Command) (K : Kernel) (s : Stim) → IsAnswerOn c K s (says 12 no_memory_line)
-all_without_memory c K s shelf read words meant = no_memory
+pub all_without_memory : (c : Command) (K : Kernel) (inputs : Inputs) → IsAnswerOn c K inputs (says 12 no_memory_line)
+all_without_memory c K inputs shelf read words meant = no_memory
 
 -- a run, with a stimulus that is named or without one
-pub run_at : (file : Bor (List ℕ)) (stim : Option (Bor (List ℕ))) (ticks : ℕ) (K : Kernel) (s : Stim) (o : Outcome) →
-    ((f : List ℕ) (name : Option (List ℕ)) → IsAnswerOn (Run f ticks name) K s o) →
-    IsAnswerOn (command_of (RunCommand file stim ticks)) K s o
-run_at file None ticks K s o answer = answer file.now None
-run_at file (Some stim) ticks K s o answer = answer file.now (Some stim.now)
+pub run_at : (file : Bor (List ℕ)) (stim : Option (Bor (List ℕ))) (ticks : ℕ) (K : Kernel) (inputs : Inputs) (o : Outcome) →
+    ((f : List ℕ) (name : Option (List ℕ)) → IsAnswerOn (Run f ticks name) K inputs o) →
+    IsAnswerOn (command_of (RunCommand file stim ticks)) K inputs o
+run_at file None ticks K inputs o answer = answer file.now None
+run_at file (Some stim) ticks K inputs o answer = answer file.now (Some stim.now)
 
-pub checked_at : (file : List ℕ) (K : Kernel) (s : Stim) → IsAnswerOn (Check file) K s (prints 0 accepted_line)
-checked_at file K s shelf read words meant = checked file read.text read.kernel.program meant read.told read.kernel.accepted
+pub checked_at : (file : List ℕ) (K : Kernel) (inputs : Inputs) → IsAnswerOn (Check file) K inputs (prints 0 accepted_line)
+checked_at file K inputs shelf read words meant = checked file read.text read.kernel.program meant read.told read.kernel.accepted
 
 -- the image of the kernel
 module _ (K : Kernel) (L : Image) (is : (text : List ℕ) → IsKernelOf text K → IsCompiled text L) where
-  pub assembled_at : (file : List ℕ) (s : Stim) → IsAnswerOn (Asm file) K s (prints 0 (code_section L))
-  assembled_at file s shelf read words meant = assembled file read.text L meant read.told (is read.text read.kernel)
+  pub assembled_at : (file : List ℕ) (inputs : Inputs) → IsAnswerOn (Asm file) K inputs (prints 0 (code_section L))
+  assembled_at file inputs shelf read words meant = assembled file read.text L meant read.told (is read.text read.kernel)
 
-  pub compiled_at : (c : Command) (s : Stim) (o : Outcome) → IsAnswerWith c L s o → IsAnswerOn c K s o
-  compiled_at c s o answer shelf read =
-      answer shelf (record { text = read.text; told = read.told; compiled = is read.text read.kernel; stim = read.stim })
+  pub compiled_at : (c : Command) (inputs : Inputs) (o : Outcome) → IsAnswerWith c L inputs o → IsAnswerOn c K inputs o
+  compiled_at c inputs o answer shelf read =
+      answer shelf (record { text = read.text; told = read.told; compiled = is read.text read.kernel; inputs_are = read.inputs_are })
 
-pub run_without_memory : (c : Command) (L : Image) (s : Stim) → IsAnswerWith c L s (says 12 no_memory_line)
-run_without_memory c L s shelf compiled words meant = no_memory
+pub image_without_memory : (c : Command) (L : Image) (inputs : Inputs) → IsAnswerWith c L inputs (says 12 no_memory_line)
+image_without_memory c L inputs shelf compiled words meant = no_memory
 
-pub ran_at : (file : List ℕ) (ticks : ℕ) (name : Option (List ℕ)) (L : Image) (s : Stim) → IsGoodStim s →
-    (lines : List Record) (word : EndWord) (trapped : Bool) → IsRunFor L s ticks lines word trapped →
-    IsAnswerWith (Run file ticks name) L s (prints (status_of_run trapped word) (run_output L lines word))
-ran_at file ticks name L s good lines word trapped lockstep shelf is words meant =
-    ran file ticks name is.text s L lines word trapped meant is.told is.compiled is.stim lockstep
-    (run_beside is.text L s is.compiled good ticks lines word trapped lockstep)
+pub ran_at : (file : List ℕ) (ticks : ℕ) (name : Option (List ℕ)) (L : Image) (inputs : Inputs) → IsGoodStim inputs.stim →
+    (lines : List Record) (word : EndWord) (trapped : Bool) → IsRunFor L inputs.stim ticks lines word trapped →
+    IsAnswerWith (Run file ticks name) L inputs (prints (status_of_run trapped word) (run_output L lines word))
+ran_at file ticks name L inputs good lines word trapped lockstep shelf is words meant =
+    ran file ticks name is.text inputs.stim L lines word trapped meant is.told is.compiled is.inputs_are.stim lockstep
+    (run_beside is.text L inputs.stim is.compiled good ticks lines word trapped lockstep)
+
+-- the routes are those of this file
+module _ (file name : List ℕ) (L : Image) (inputs : Inputs) where
+  pub timed_at : (numbers : List ℕ) → AreBounds L inputs.routes numbers →
+      ((line rule : ℕ) → IsFirstBrokenOn L inputs.routes line rule → ⊥) →
+      IsAnswerWith (Time file name) L inputs (prints 0 (time_output L numbers))
+  timed_at numbers bounds unbroken shelf is words meant =
+      timed L name inputs.routes numbers
+      (record { file = file; meant = meant; text = is.text; told = is.told; compiled = is.compiled; asked_told = is.inputs_are.routes })
+      bounds unbroken (numbers_hold L inputs.routes numbers bounds)
+
+  pub bad_route_at : (line rule : ℕ) → IsFirstBrokenOn L inputs.routes line rule →
+      IsAnswerWith (Time file name) L inputs (prints_and_says 13 (code_section L) (bad_line name line rule))
+  bad_route_at line rule first shelf is words meant =
+      bad_route L name inputs.routes line rule
+      (record { file = file; meant = meant; text = is.text; told = is.told; compiled = is.compiled; asked_told = is.inputs_are.routes })
+      first

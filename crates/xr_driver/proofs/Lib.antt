@@ -3,6 +3,7 @@ mod Completes
 mod Decides
 mod Given
 mod OnlyCauses
+mod OtherWords
 mod ProgramRuns
 mod Rounds
 mod RunWords

@@ -7,9 +7,9 @@ use Rattle.xs_instr.specs.declared.trace.Record.{Record}
 use Rattle.xc_tree.specs.Plain.{Item}
 use Rattle.xs_instr.specs.declared.trace.EndWord.{EndWord}
 use Rattle.xs_instr.specs.declared.trace.EndWord.TheVariants.{Finished, Trapped, Stuck, Stopped}
-use Rattle.xr_driver.specs.Answers.{Answers, Decided, no_command, missing, too_long, read_fault, refused, bad_stim, checked, assembled, ran, no_memory, Delivered, whole, out_fell, err_fell, Outcome, status_of_run}
-use Rattle.xr_driver.specs.Causes.{OnlyCauses, OutputCauses, WasRun}
-use Rattle.xr_driver.specs.Command.{Command, Run, Asm, Check, file_of, means}
+use Rattle.xr_driver.specs.Answers.{Answers, Decided, no_command, missing, too_long, read_fault, refused, bad_stim, checked, assembled, ran, timed, bad_route, no_memory, Delivered, whole, out_fell, err_fell, Outcome, status_of_run}
+use Rattle.xr_driver.specs.Causes.{BreaksNone, OnlyCauses, OutputCauses, WasRun, WasTimed}
+use Rattle.xr_driver.specs.Command.{Command, Run, Asm, Check, Time, file_of, means}
 use Rattle.xr_front.specs.Rules.{IsAccepted}
 use Rattle.xr_driver.specs.Runs.{IsCompiled, IsRunFor, IsStimOf}
 use Rattle.xr_driver.specs.Outside.{Loads, Span, Gained}
@@ -43,6 +43,7 @@ module _ (words : List (List ℕ)) (shelf : Loads) (out err : Span) where
   without_output s some (inl few) = record {
     done = λ e. absurd (some e);
     finished = λ e file ticks stim m. absurd (some e);
+    bounded = λ e file name m. absurd (some e);
     trapped = λ e. absurd (omega (arith, few, e));
     stopped = λ e. absurd (omega (arith, few, e));
     stuck = λ e. absurd (omega (arith, few, e));
@@ -50,24 +51,27 @@ module _ (words : List (List ℕ)) (shelf : Loads) (out err : Span) where
   without_output s some (inr more) = record {
     done = λ e. absurd (some e);
     finished = λ e file ticks stim m. absurd (some e);
+    bounded = λ e file name m. absurd (some e);
     trapped = λ e. absurd (omega (arith, more, e));
     stopped = λ e. absurd (omega (arith, more, e));
     stuck = λ e. absurd (omega (arith, more, e));
   }
 
+  same_command : (a b : Command) → Some a ≡ Some b → a ≡ b
+  same_command a b e = cc
+
   -- a command that is no run, and is done
   all_done : (c : Command) (text : List ℕ) (P : List Item) → means words ≡ Some c → IsFileOf shelf.files (file_of c) text → IsAccepted text P →
-      ((file : List ℕ) (ticks : ℕ) (stim : Option (List ℕ)) → c ≡ Run file ticks stim → ⊥) → OutputCauses words shelf 0
-  all_done c text P m told accepted no_run = record {
+      ((file : List ℕ) (ticks : ℕ) (stim : Option (List ℕ)) → c ≡ Run file ticks stim → ⊥) →
+      ((file name : List ℕ) → c ≡ Time file name → WasTimed words shelf BreaksNone) → OutputCauses words shelf 0
+  all_done c text P m told accepted no_run bounds = record {
     done = λ e. (c, m, (text, told, (P, accepted)));
     finished = λ e file ticks stim m'. absurd (no_run file ticks stim (same_command c (Run file ticks stim) (sym m ∙ m')));
+    bounded = λ e file name m'. bounds file name (same_command c (Time file name) (sym m ∙ m'));
     trapped = λ e. absurd (omega (arith, e));
     stopped = λ e. absurd (omega (arith, e));
     stuck = λ e. absurd (omega (arith, e));
   }
-    where
-      same_command : (a b : Command) → Some a ≡ Some b → a ≡ b
-      same_command a b e = cc
 
   -- a run, by its end
   ran_so : (file : List ℕ) (ticks : ℕ) (stim : Option (List ℕ)) (text : List ℕ) (s : Stim) (L : Image) (lines : List Record)
@@ -95,10 +99,14 @@ module _ (words : List (List ℕ)) (shelf : Loads) (out err : Span) where
         is_so = h;
       }
 
+      run_is_not_time : (f n : List ℕ) → Run file ticks stim ≡ Time f n → ⊥
+      run_is_not_time f n e = cc
+
       by_end : (trapped : Bool) (word : EndWord) → IsRunFor L s ticks lines word trapped → OutputCauses words shelf (status_of_run trapped word)
       by_end true word run = record {
         done = λ e. absurd (omega (arith, e));
         finished = λ e f t st m'. absurd (omega (arith, e));
+        bounded = λ e f n m'. absurd (omega (arith, e));
         trapped = λ e. so (λ w t. t ≡ true) true word run refl;
         stopped = λ e. absurd (omega (arith, e));
         stuck = λ e. absurd (omega (arith, e));
@@ -106,6 +114,7 @@ module _ (words : List (List ℕ)) (shelf : Loads) (out err : Span) where
       by_end false Finished run = record {
         done = λ e. (Run file ticks stim, m, (text, told, (compiled.program, compiled.means_so)));
         finished = λ e f t st m'. so (λ w t. (w ≡ Finished) × (t ≡ false)) false Finished run (refl, refl);
+        bounded = λ e f n m'. absurd (run_is_not_time f n (same_command (Run file ticks stim) (Time f n) (sym m ∙ m')));
         trapped = λ e. absurd (omega (arith, e));
         stopped = λ e. absurd (omega (arith, e));
         stuck = λ e. absurd (omega (arith, e));
@@ -113,6 +122,7 @@ module _ (words : List (List ℕ)) (shelf : Loads) (out err : Span) where
       by_end false Trapped run = record {
         done = λ e. absurd (omega (arith, e));
         finished = λ e f t st m'. absurd (omega (arith, e));
+        bounded = λ e f n m'. absurd (omega (arith, e));
         trapped = λ e. so (λ w t. t ≡ true) false Trapped run (run.trapped_only_with_a_trap refl);
         stopped = λ e. absurd (omega (arith, e));
         stuck = λ e. absurd (omega (arith, e));
@@ -120,6 +130,7 @@ module _ (words : List (List ℕ)) (shelf : Loads) (out err : Span) where
       by_end false Stuck run = record {
         done = λ e. absurd (omega (arith, e));
         finished = λ e f t st m'. absurd (omega (arith, e));
+        bounded = λ e f n m'. absurd (omega (arith, e));
         trapped = λ e. absurd (omega (arith, e));
         stopped = λ e. absurd (omega (arith, e));
         stuck = λ e. so (λ w t. (w ≡ Stuck) × (t ≡ false)) false Stuck run (refl, refl);
@@ -127,6 +138,7 @@ module _ (words : List (List ℕ)) (shelf : Loads) (out err : Span) where
       by_end false Stopped run = record {
         done = λ e. absurd (omega (arith, e));
         finished = λ e f t st m'. absurd (omega (arith, e));
+        bounded = λ e f n m'. absurd (omega (arith, e));
         trapped = λ e. absurd (omega (arith, e));
         stopped = λ e. so (λ w t. (w ≡ Stopped) × (t ≡ false)) false Stopped run (refl, refl);
         stuck = λ e. absurd (omega (arith, e));
@@ -141,6 +153,7 @@ module _ (words : List (List ℕ)) (shelf : Loads) (out err : Span) where
     too_long = λ e. absurd (not_late s 7 h (omega arith) e);
     read_fault = λ e. absurd (not_late s 8 h (omega arith) e);
     stim_refused = λ e. absurd (not_late s 10 h (omega arith) e);
+    route_refused = λ e. absurd (not_late s 13 h (omega arith) e);
     write_fault = λ e. absurd (not_late s 9 h (omega arith) e);
     no_memory = λ e. absurd (not_late s 12 h (omega arith) e);
     output = output;
@@ -155,6 +168,7 @@ module _ (words : List (List ℕ)) (shelf : Loads) (out err : Span) where
     too_long = λ e. absurd (omega (arith, e));
     read_fault = λ e. absurd (omega (arith, e));
     stim_refused = λ e. absurd (omega (arith, e));
+    route_refused = λ e. absurd (omega (arith, e));
     write_fault = λ e. absurd (omega (arith, e));
     no_memory = λ e. g;
     output = without_output 2 (λ e. absurd (omega (arith, e))) (inl (omega arith));
@@ -167,6 +181,7 @@ module _ (words : List (List ℕ)) (shelf : Loads) (out err : Span) where
     too_long = λ e. absurd (omega (arith, e));
     read_fault = λ e. absurd (omega (arith, e));
     stim_refused = λ e. absurd (omega (arith, e));
+    route_refused = λ e. absurd (omega (arith, e));
     write_fault = λ e. absurd (omega (arith, e));
     no_memory = λ e. g;
     output = without_output 6 (λ e. absurd (omega (arith, e))) (inr (omega arith));
@@ -179,6 +194,7 @@ module _ (words : List (List ℕ)) (shelf : Loads) (out err : Span) where
     too_long = λ e. (rose, (c, m, (name, due, long)));
     read_fault = λ e. absurd (omega (arith, e));
     stim_refused = λ e. absurd (omega (arith, e));
+    route_refused = λ e. absurd (omega (arith, e));
     write_fault = λ e. absurd (omega (arith, e));
     no_memory = λ e. g;
     output = without_output 7 (λ e. absurd (omega (arith, e))) (inr (omega arith));
@@ -191,6 +207,7 @@ module _ (words : List (List ℕ)) (shelf : Loads) (out err : Span) where
     too_long = λ e. absurd (omega (arith, e));
     read_fault = λ e. (rose, (c, m, (name, due, tt)));
     stim_refused = λ e. absurd (omega (arith, e));
+    route_refused = λ e. absurd (omega (arith, e));
     write_fault = λ e. absurd (omega (arith, e));
     no_memory = λ e. g;
     output = without_output 8 (λ e. absurd (omega (arith, e))) (inr (omega arith));
@@ -203,6 +220,7 @@ module _ (words : List (List ℕ)) (shelf : Loads) (out err : Span) where
     too_long = λ e. absurd (omega (arith, e));
     read_fault = λ e. absurd (omega (arith, e));
     stim_refused = λ e. absurd (omega (arith, e));
+    route_refused = λ e. absurd (omega (arith, e));
     write_fault = λ e. absurd (omega (arith, e));
     no_memory = λ e. g;
     output = without_output 1 (λ e. absurd (omega (arith, e))) (inl (omega arith));
@@ -215,18 +233,36 @@ module _ (words : List (List ℕ)) (shelf : Loads) (out err : Span) where
     too_long = λ e. absurd (omega (arith, e));
     read_fault = λ e. absurd (omega (arith, e));
     stim_refused = λ e. (name, line, rule, bad);
+    route_refused = λ e. absurd (omega (arith, e));
     write_fault = λ e. absurd (omega (arith, e));
     no_memory = λ e. g;
     output = without_output 10 (λ e. absurd (omega (arith, e))) (inr (omega arith));
     others = inl (omega arith);
   }
   by_decided o (checked file text P m told accepted) g =
-      printed 0 (omega arith, inl refl) (all_done (Check file) text P m told accepted (λ f t s e. cc))
+      printed 0 (omega arith, inl refl) (all_done (Check file) text P m told accepted (λ f t s e. cc) (λ f n e. absurd (cc)))
   by_decided o (assembled file text L m told compiled) g =
-      printed 0 (omega arith, inl refl) (all_done (Asm file) text compiled.program m told compiled.means_so (λ f t s e. cc))
+      printed 0 (omega arith, inl refl) (all_done (Asm file) text compiled.program m told compiled.means_so (λ f t s e. cc) (λ f n e. absurd (cc)))
   by_decided o (ran file ticks stim text s L lines word trapped m told compiled stimulus lockstep beside) g =
       printed (status_of_run trapped word) (run_status trapped word)
       (ran_so file ticks stim text s L lines word trapped m told compiled stimulus lockstep)
+  by_decided o (timed L name asked numbers are bounds unbroken kept) g =
+      printed 0 (omega arith, inl refl)
+      (all_done (Time are.file name) are.text are.compiled.program are.meant are.told are.compiled.means_so (λ f t s e. cc)
+      (λ f n e. (L, name, asked, are, unbroken)))
+  by_decided o (bad_route L name asked line rule are first) g = record {
+    refused = λ e. absurd (omega (arith, e));
+    usage = λ e. absurd (omega (arith, e));
+    missing = λ e. absurd (omega (arith, e));
+    too_long = λ e. absurd (omega (arith, e));
+    read_fault = λ e. absurd (omega (arith, e));
+    stim_refused = λ e. absurd (omega (arith, e));
+    route_refused = λ e. (L, name, asked, are, (line, rule, first, g));
+    write_fault = λ e. absurd (omega (arith, e));
+    no_memory = λ e. absurd (omega (arith, e));
+    output = without_output 13 (λ e. absurd (omega (arith, e))) (inr (omega arith));
+    others = inr (inr refl);
+  }
   by_decided o no_memory g = record {
     refused = λ e. absurd (omega (arith, e));
     usage = λ e. absurd (omega (arith, e));
@@ -234,10 +270,11 @@ module _ (words : List (List ℕ)) (shelf : Loads) (out err : Span) where
     too_long = λ e. absurd (omega (arith, e));
     read_fault = λ e. absurd (omega (arith, e));
     stim_refused = λ e. absurd (omega (arith, e));
+    route_refused = λ e. absurd (omega (arith, e));
     write_fault = λ e. absurd (omega (arith, e));
     no_memory = λ e. g;
     output = without_output 12 (λ e. absurd (omega (arith, e))) (inr (omega arith));
-    others = inr refl;
+    others = inr (inl refl);
   }
 
   nine : Rose out.faults out.faults' ⊎ Rose err.faults err.faults' → OnlyCauses words shelf out err 9
@@ -248,6 +285,7 @@ module _ (words : List (List ℕ)) (shelf : Loads) (out err : Span) where
     too_long = λ e. absurd (omega (arith, e));
     read_fault = λ e. absurd (omega (arith, e));
     stim_refused = λ e. absurd (omega (arith, e));
+    route_refused = λ e. absurd (omega (arith, e));
     write_fault = λ e. rose;
     no_memory = λ e. absurd (omega (arith, e));
     output = without_output 9 (λ e. absurd (omega (arith, e))) (inr (omega arith));

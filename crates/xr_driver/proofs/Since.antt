@@ -1,7 +1,7 @@
 -- What is decided since a later moment of a shelf is decided since an earlier one too.
 use Rattle.std.proofs.Common.{◌≡◌, ◌≤◌, ℕ, List, Option, arith, inl, inr, subst}
 use Rattle.xw_io.specs.Outside.{Rose}
-use Rattle.xr_driver.specs.Answers.{Decided, Outcome, no_command, missing, too_long, read_fault, refused, bad_stim, checked, assembled, ran, no_memory}
+use Rattle.xr_driver.specs.Answers.{Decided, Outcome, no_command, missing, too_long, read_fault, refused, bad_stim, checked, assembled, ran, timed, bad_route, no_memory}
 use Rattle.xw_io.specs.declared.file.File.{File}
 use Rattle.xr_driver.specs.Command.{Command}
 use Rattle.xr_driver.specs.Outside.{Loads}
@@ -26,6 +26,8 @@ module _ (words : List (List ℕ)) (shelf : Loads) (faults misses longs : ℕ) (
   decided_since o (assembled file text L meant told compiled) = assembled file text L meant told compiled
   decided_since o (ran file ticks stim text s L lines word trapped meant told compiled stimulus lockstep of_program) =
       ran file ticks stim text s L lines word trapped meant told compiled stimulus lockstep of_program
+  decided_since o (timed L name asked numbers are bounds unbroken kept) = timed L name asked numbers are bounds unbroken kept
+  decided_since o (bad_route L name asked line rule are first) = bad_route L name asked line rule are first
   decided_since o no_memory = no_memory
 
 pub answered_since : (late : Loads) (files : Option (List File)) (faults misses longs : ℕ) → late.files ≡ files → faults ≤ late.faults →

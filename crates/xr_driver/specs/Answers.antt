@@ -9,9 +9,11 @@ use Rattle.xs_instr.specs.declared.trace.EndWord.{EndWord}
 use Rattle.xs_instr.specs.declared.trace.EndWord.TheVariants.{Finished, Trapped, Stuck, Stopped}
 use Rattle.xs_instr.specs.declared.trace.Record.{Record}
 use Rattle.xc_tree.specs.Plain.{Item}
-use Rattle.xr_driver.specs.Command.{Run, Asm, Check, Command, file_of, means}
-use Rattle.xr_driver.specs.Due.{IsDue, IsStimDue}
-use Rattle.xr_driver.specs.Lines.{accepted_line, code_section, run_output, usage_line, no_file_line, too_long_line, read_fault_line, broken_line, bad_line, no_memory_line}
+use Rattle.xf_time.specs.Bounds.{AreBounds, IsFirstBroken as IsFirstBrokenOn}
+use Rattle.xf_time.specs.Threads.{AreKept}
+use Rattle.xr_driver.specs.Command.{Run, Asm, Check, Time, Command, file_of, means, stim_of}
+use Rattle.xr_driver.specs.Due.{HasAccepted, IsDue}
+use Rattle.xr_driver.specs.Lines.{accepted_line, code_section, run_output, time_output, usage_line, no_file_line, too_long_line, read_fault_line, broken_line, bad_line, no_memory_line}
 use Rattle.xr_driver.specs.Outside.{Loads, Span, Gained, GainedFront}
 use Rattle.xr_front.specs.Rules.{First, IsAccepted}
 use Rattle.xr_driver.specs.Runs.{IsCompiled, IsRunFor, IsRunOf, IsStimOf}
@@ -31,6 +33,10 @@ says status line = record { status = status; output = []; line = line }
 abbrev pub prints : ℕ → List ℕ → Outcome
 prints status output = record { status = status; output = output; line = [] }
 
+-- a status with an output and a line
+abbrev pub prints_and_says : ℕ → List ℕ → List ℕ → Outcome
+prints_and_says status output line = record { status = status; output = output; line = line }
+
 -- the status of a run without traps, by its end word
 abbrev pub status_of_word : EndWord → ℕ
 status_of_word Finished = 0
@@ -48,10 +54,20 @@ status_of_run false word = status_of_word word
 pub record HasBadLine (words : List (List ℕ)) (files : Option (List File)) (name : List ℕ) (line rule : ℕ) : Type 0 where
   pub c : Command
   pub meant : means words ≡ Some c
-  pub due : IsStimDue files c name
+  pub accepted : HasAccepted files c
+  pub names : stim_of c ≡ Some name
   pub text : List ℕ
   pub told : IsFileOf files name text
   pub first : IsFirstBroken text line rule
+
+-- The words mean `time` of a text and of the routes of another file; this is the text's image, and this is what the routes' file asks for.
+pub record AreTimed (words : List (List ℕ)) (files : Option (List File)) (L : Image) (name asked : List ℕ) : Type 0 where
+  pub file : List ℕ
+  pub meant : means words ≡ Some (Time file name)
+  pub text : List ℕ
+  pub told : IsFileOf files file text
+  pub compiled : IsCompiled text L
+  pub asked_told : IsFileOf files name asked
 
 -- Each outcome with its cause: one row for each that there is. Where memory is wanting for the words themselves, `main` answers
 -- without a call, and writes nothing, as for words that the system doesn't give (15).
@@ -82,6 +98,12 @@ pub data Decided (words : List (List ℕ)) (shelf : Loads) : Outcome → Type 0 
       IsFileOf shelf.files file text → (compiled : IsCompiled text L) → IsStimOf shelf.files stim s →
       IsRunFor L s ticks lines word trapped → IsRunOf compiled.program L s ticks lines word →
       Decided words shelf (prints (status_of_run trapped word) (run_output L lines word))
+  timed : (L : Image) (name asked numbers : List ℕ) → AreTimed words shelf.files L name asked →
+      AreBounds L asked numbers → ((line rule : ℕ) → IsFirstBrokenOn L asked line rule → ⊥) → AreKept L asked numbers →
+      Decided words shelf (prints 0 (time_output L numbers))
+  bad_route : (L : Image) (name asked : List ℕ) (line rule : ℕ) → AreTimed words shelf.files L name asked →
+      IsFirstBrokenOn L asked line rule →
+      Decided words shelf (prints_and_says 13 (code_section L) (bad_line name line rule))
   no_memory : Decided words shelf (says 12 no_memory_line)
 
 -- Both sinks gained what is due, or one of them failed and each gained a front of it. Then the status is 9.

@@ -11,6 +11,8 @@ pub data Command : Type 0 where
   Asm : (file : List ℕ) → Command
   -- say whether a file is accepted
   Check : (file : List ℕ) → Command
+  -- compile a file, and write its listing and the bounds of the routes that another file asks for
+  Time : (file routes : List ℕ) → Command
 
 -- the word begins with two dashes
 abbrev pub is_option : List ℕ → Bool
@@ -90,12 +92,14 @@ run_as words = run_on words.operands (unwrap_or words.ticks default_ticks)
 abbrev pub run_of : List (List ℕ) → Option Command
 run_of words = option_and_then run_as (run_words words)
 
--- what the word of another command asks for, with the words behind it: a file
+-- what the word of another command asks for, with the words behind it: a file, or two
 abbrev pub other_of : (word : List ℕ) → List (List ℕ) → Option Command
 other_of word (file ∷ []) =
     if is_operand file then (if bytes_eq word (codes "asm") then Some (Asm file)
     else (if bytes_eq word (codes "check") then Some (Check file) else None))
     else None
+other_of word (file ∷ second ∷ []) =
+    if is_operand file && is_operand second && bytes_eq word (codes "time") then Some (Time file second) else None
 other_of word other = None
 
 -- What words mean: the first is the command.
@@ -108,9 +112,25 @@ abbrev pub file_of : Command → List ℕ
 file_of (Run file ticks stim) = file
 file_of (Asm file) = file
 file_of (Check file) = file
+file_of (Time file routes) = file
 
 -- the file with the stimulus, where a command names one
 abbrev pub stim_of : Command → Option (List ℕ)
 stim_of (Run file ticks stim) = stim
 stim_of (Asm file) = None
 stim_of (Check file) = None
+stim_of (Time file routes) = None
+
+-- the file with the routes, where a command names one
+abbrev pub route_file_of : Command → Option (List ℕ)
+route_file_of (Run file ticks stim) = None
+route_file_of (Asm file) = None
+route_file_of (Check file) = None
+route_file_of (Time file routes) = Some routes
+
+-- the file that a command names behind that of its text
+abbrev pub second_of : Command → Option (List ℕ)
+second_of (Run file ticks stim) = stim
+second_of (Asm file) = None
+second_of (Check file) = None
+second_of (Time file routes) = Some routes

@@ -3,15 +3,15 @@ use Rattle.std.specs.Prelude.{ℕ, List, [], ◌∷◌, None, Some}
 use Rattle.xs_instr.specs.Valid.{Valid}
 use Rattle.xr_driver.specs.declared.decide.Decision.{Decision}
 use Rattle.xr_driver.specs.declared.decide.Printed.{Printed}
-use Rattle.xr_driver.specs.declared.decide.Printed.TheVariants.{Nothing, Accepted, Code, Whole}
+use Rattle.xr_driver.specs.declared.decide.Printed.TheVariants.{Nothing, Accepted, Code, Bounds, Whole}
 use Rattle.xr_driver.specs.declared.decide.Line.{Line}
 use Rattle.xr_driver.specs.declared.decide.Line.TheVariants.{Nothing as NoLine, Usage, NoFile, TooLong, ReadFault, Broken as BrokenLine, BadLine, NoMemory}
 use Rattle.xr_driver.specs.declared.words.Command.{Command}
-use Rattle.xr_driver.specs.declared.words.Command.TheVariants.{Run, Asm, Check}
+use Rattle.xr_driver.specs.declared.words.Command.TheVariants.{Run, Asm, Check, Time}
 use Rattle.xr_driver.specs.declared.words.Operands.{Operands}
 use Rattle.xr_driver.specs.declared.words.Operands.TheVariants.{Nothing as NoOperand, File, FileAndStim}
-use Rattle.xr_driver.specs.Command.{Command as Meant, Run as MeansRun, Asm as MeansAsm, Check as MeansCheck}
-use Rattle.xr_driver.specs.Lines.{accepted_line, code_section, run_output, usage_line, no_file_line, too_long_line, read_fault_line, broken_line, bad_line, no_memory_line}
+use Rattle.xr_driver.specs.Command.{Command as Meant, Run as MeansRun, Asm as MeansAsm, Check as MeansCheck, Time as MeansTime}
+use Rattle.xr_driver.specs.Lines.{accepted_line, code_section, run_output, time_output, usage_line, no_file_line, too_long_line, read_fault_line, broken_line, bad_line, no_memory_line}
 use Rattle.xr_driver.specs.Answers.{Outcome}
 
 -- the meaning of a command
@@ -20,6 +20,7 @@ command_of (Run file None ticks) = MeansRun file.now ticks None
 command_of (Run file (Some stim) ticks) = MeansRun file.now ticks (Some stim.now)
 command_of (Asm file) = MeansAsm file.now
 command_of (Check file) = MeansCheck file.now
+command_of (Time file routes) = MeansTime file.now routes.now
 
 -- the operands among the words behind `run`
 abbrev pub names_of : Operands → List (List ℕ)
@@ -32,6 +33,7 @@ abbrev pub printed_text : Printed → List ℕ
 printed_text Nothing = []
 printed_text Accepted = accepted_line
 printed_text (Code L) = code_section L
+printed_text (Bounds L numbers) = time_output L numbers
 printed_text (Whole L run) = run_output L run.machine.state.trace run.end
 
 -- what is due can be written
@@ -39,6 +41,7 @@ abbrev pub IsPrintable : Printed → Type 0
 IsPrintable Nothing = Unit {0}
 IsPrintable Accepted = Unit {0}
 IsPrintable (Code L) = Valid L
+IsPrintable (Bounds L numbers) = Valid L
 IsPrintable (Whole L run) = Valid L
 
 -- what is due on `err`

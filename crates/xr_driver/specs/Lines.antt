@@ -15,11 +15,19 @@ unfoldable pub run_output : Image → List Record → EndWord → List ℕ
 run_output L lines word =
     codes "code\n" ++ image_text L ++ codes "trace\n" ++ all_texts record_line lines ++ codes "end " ++ end_text word ++ codes "\n"
 
+-- the bound of a route, as `ticks N`
+unfoldable pub bound_line : ℕ → List ℕ
+bound_line n = codes "ticks " ++ decimal n ++ codes "\n"
+
+-- the whole output of `time`: code section, and the bound of each route
+unfoldable pub time_output : Image → (numbers : List ℕ) → List ℕ
+time_output L numbers = codes "code\n" ++ image_text L ++ all_texts bound_line numbers
+
 abbrev pub accepted_line : List ℕ
 accepted_line = codes "accepted\n"
 
 abbrev pub usage_line : List ℕ
-usage_line = codes "usage: xcsim check FILE | asm FILE | run FILE [STIM] [--ticks N] [--workers W] | debug FILE STIM SCRIPT | make N | bench N\n"
+usage_line = codes "usage: xcsim check FILE | asm FILE | run FILE [STIM] [--ticks N] [--workers W] | debug FILE STIM SCRIPT | make N | bench N | time FILE SPEC\n"
 
 unfoldable pub no_file_line : List ℕ → List ℕ
 no_file_line name = codes "no file " ++ name ++ codes "\n"
@@ -34,7 +42,7 @@ read_fault_line name = codes "read fault " ++ name ++ codes "\n"
 unfoldable pub broken_line : List ℕ → Broken → List ℕ
 broken_line name b = name ++ codes ":" ++ pos_text b.pos ++ codes ": rule " ++ decimal b.rule ++ codes "\n"
 
--- the line of a stimulus that breaks a rule, and the rule, as `STIM:LINE: rule N`
+-- the line of a stimulus or of a text of routes that breaks a rule, and the rule, as `STIM:LINE: rule N`
 unfoldable pub bad_line : List ℕ → (line : ℕ) → (rule : ℕ) → List ℕ
 bad_line name line rule = name ++ codes ":" ++ decimal line ++ codes ": rule " ++ decimal rule ++ codes "\n"
 

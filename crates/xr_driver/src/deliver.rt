@@ -4,18 +4,19 @@ ghost use Rattle.std.specs.Prelude.{◌≡◌, ◌≢◌, ◌≤◌, ◌++◌, [
 ghost use Rattle.xs_instr.specs.Texts.{all_texts, record_line};
 ghost use Rattle.xw_io.specs.Gathering.{Drew};
 ghost use Rattle.xr_driver.specs.Answers.{Delivered};
-ghost use Rattle.xr_driver.specs.Lines.{bad_line, broken_line, usage_line};
+ghost use Rattle.xr_driver.specs.Lines.{bad_line, bound_line, broken_line, usage_line};
 ghost use Rattle.xr_driver.specs.Decision.{outcome_of, printed_text, line_text, IsPrintable};
 ghost use Rattle.xr_driver.specs.Outside.{Gave, span};
 
 use crate::decide::{Decision, Line, Printed};
+use itoa::Buffer;
 use xr_text::{add_image, add_number, add_pos, add_record, add_word};
 use xs_instr::Record;
 use xw_io::{Out, Sink, SinkFault};
 use xw_words::Broken;
 
 const USAGE: &[u8] =
-    b"usage: xcsim check FILE | asm FILE | run FILE [STIM] [--ticks N] [--workers W] | debug FILE STIM SCRIPT | make N | bench N\n";
+    b"usage: xcsim check FILE | asm FILE | run FILE [STIM] [--ticks N] [--workers W] | debug FILE STIM SCRIPT | make N | bench N | time FILE SPEC\n";
 
 const WRITE_FAULT: u8 = 9;
 
@@ -62,6 +63,12 @@ fn add_printed<O: Sink>(out: &mut Out<'_, O>, printed: &Printed)
             out.add(b"code\n");
             add_image(out, image);
         }
+        Printed::Bounds(image, numbers) => {
+            out.add(b"code\n");
+            add_image(out, image);
+            out.settle();
+            add_bounds(out, numbers.as_slice());
+        }
         Printed::Whole(image, run) => {
             out.add(b"code\n");
             add_image(out, image);
@@ -83,6 +90,26 @@ fn add_records<O: Sink>(out: &mut Out<'_, O>, records: &[Record])
     for i in 0..records.len() {
         add_record(out, &records[i]);
     }
+}
+
+fn add_bounds<O: Sink>(out: &mut Out<'_, O>, numbers: &[u64])
+    ensures same_sink { out.new.sink.ghost_name ≡ out.old.sink.ghost_name }
+    ensures drew { Drew O.bytes O.faults out.old out.new (all_texts bound_line numbers.now) }
+{
+    for i in 0..numbers.len() {
+        add_bound(out, numbers[i]);
+    }
+}
+
+/// Adds the bound of a route.
+fn add_bound<O: Sink>(out: &mut Out<'_, O>, number: u64)
+    ensures same_sink { out.new.sink.ghost_name ≡ out.old.sink.ghost_name }
+    ensures drew { Drew O.bytes O.faults out.old out.new (bound_line number) }
+{
+    let mut buffer = Buffer::new();
+    out.add(b"ticks ");
+    out.add(buffer.format(number).as_bytes());
+    out.add(b"\n");
 }
 
 fn put_line<O: Sink>(sink: &mut O, line: &Line) -> Result<(), SinkFault>
@@ -140,7 +167,7 @@ fn add_broken<O: Sink>(out: &mut Out<'_, O>, file: &str, broken: Broken)
     out.add(b"\n");
 }
 
-/// Adds the line of a stimulus that breaks a rule, and the rule.
+/// Adds the line of a stimulus or of a text of routes that breaks a rule, and the rule.
 fn add_bad_line<O: Sink>(out: &mut Out<'_, O>, file: &str, line: u32, rule: u16)
     ensures same_sink { out.new.sink.ghost_name ≡ out.old.sink.ghost_name }
     ensures drew { Drew O.bytes O.faults out.old out.new (bad_line file.now line rule) }

@@ -1,4 +1,4 @@
-// The files of a command: its text and its stimulus.
+// The files of a command: its text, and its stimulus or its routes.
 
 ghost use Rattle.std.specs.Prelude.{◌≡◌, ◌≤◌, Some, IfOk};
 ghost use Rattle.xc_kernel.specs.Kernels.{kernel_of};
@@ -7,9 +7,9 @@ ghost use Rattle.xs_instr.specs.Valid.{IsGoodStim};
 ghost use Rattle.xw_io.specs.Outside.{IsFileOf};
 ghost use Rattle.xr_driver.specs.Decision.{command_of};
 ghost use Rattle.xr_driver.specs.Outside.{loads};
-ghost use Rattle.xr_driver.specs.Parts.{AreRead};
-ghost use Rattle.xr_driver.specs.Reads.{IsKernelIn, RefusesCommand, RefusesFile, RefusesStim, RefusesText};
-ghost use Rattle.xr_driver.specs.Runs.{IsStimOf};
+ghost use Rattle.xr_driver.specs.Parts.{AreGoodInputs, AreInputs, AreRead};
+ghost use Rattle.xr_driver.specs.Reads.{IsKernelIn, RefusesCommand, RefusesFile, RefusesInputs, RefusesStim, RefusesText};
+ghost use Rattle.xr_driver.specs.Runs.{IsStimOf, no_stim};
 
 use crate::decide::Line;
 use crate::words::Command;
@@ -29,33 +29,75 @@ pub struct Refused<'w> {
     pub line: Line<'w>,
 }
 
-/// The kernel of a command's text, and its stimulus, which is loaded once the text is accepted. It has no lines where none is named.
+/// What a command reads beside its text. Where it names no file for the stimulus, that has no lines, and where it names none for the
+/// routes, there are none.
+#[derive(Drop)]
+pub struct Inputs {
+    pub stim: Stim,
+    pub routes: List<u8>,
+}
+
+/// The kernel of a command's text, and its inputs, which are loaded once the text is accepted.
 pub fn read_files<'w, S: Shelf>(
     alloc: Global,
     command: Command<'w>,
     shelf: &mut S,
-) -> Result<(Checked, Stim), Refused<'w>>
+) -> Result<(Checked, Inputs), Refused<'w>>
     ensures read { IfOk result
         (λ r. AreRead (S.files shelf.old) (command_of command.entry) (kernel_of r.0) r.1) }
     ensures built { IfOk result (λ r. KernelIsBuilt (kernel_of r.0)) }
-    ensures good { IfOk result (λ r. IsGoodStim r.1) }
+    ensures good { IfOk result (λ r. AreGoodInputs r.1) }
     ensures refused { RefusesCommand (loads S.files S.faults S.misses S.longs shelf.old shelf.new)
         (command_of command.entry) result }
     ensures files { S.files shelf.new ≡ S.files shelf.old }
     ensures faults { S.faults shelf.old ≤ S.faults shelf.new }
 {
     let checked = checked_of(alloc, command.file(), shelf)?;
-    let Some(name) = command.stim() else {
-        let lines = List::new(alloc);
-        return Ok((checked, Stim { lines }));
-    };
-    match stim_of(alloc, name, shelf) {
-        Ok(stim) => Ok((checked, stim)),
+    match inputs_of(alloc, command, shelf) {
+        Ok(inputs) => Ok((checked, inputs)),
         Err(refused) => {
             drop(checked);
             Err(refused)
         }
     }
+}
+
+/// What a command reads beside its text, once that is accepted.
+fn inputs_of<'w, S: Shelf>(
+    alloc: Global,
+    command: Command<'w>,
+    shelf: &mut S,
+) -> Result<Inputs, Refused<'w>>
+    ensures read { IfOk result
+        (λ inputs. AreInputs (S.files shelf.old) (command_of command.entry) inputs) }
+    ensures good { IfOk result AreGoodInputs }
+    ensures refused { RefusesInputs (loads S.files S.faults S.misses S.longs shelf.old shelf.new)
+        (command_of command.entry) result }
+    ensures files { S.files shelf.new ≡ S.files shelf.old }
+    ensures faults { S.faults shelf.old ≤ S.faults shelf.new }
+{
+    if let Some(name) = command.stim() {
+        let stim = stim_of(alloc, name, shelf)?;
+        let routes = List::new(alloc);
+        return Ok(Inputs { stim, routes });
+    }
+    let Some(name) = command.routes() else {
+        let stim = without_lines(alloc);
+        let routes = List::new(alloc);
+        return Ok(Inputs { stim, routes });
+    };
+    let text = load(alloc, name, shelf)?;
+    let stim = without_lines(alloc);
+    let routes = List::from_vec(text);
+    Ok(Inputs { stim, routes })
+}
+
+/// A stimulus without lines.
+fn without_lines(alloc: Global) -> Stim
+    ensures { result ≡ no_stim }
+{
+    let lines = List::new(alloc);
+    Stim { lines }
 }
 
 /// The kernel of the text that a file has. The text is dropped then.

@@ -1,5 +1,5 @@
-//! The driver: it reads the words of a command line and its files, compiles the text, runs the image under the stimulus, and writes the
-//! listing and the trace, or what is wrong.
+//! The driver: it reads the words of a command line and its files, compiles the text, runs the image under the stimulus or finds the
+//! bounds of routes, and writes the listing and the trace or the bounds, or what is wrong.
 //!
 //! `xcsim` is what the program calls, `still` the same for who has no threads. Their clauses are the promise of the whole program: what
 //! each sink gains, and with which cause each status comes.

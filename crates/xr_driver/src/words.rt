@@ -2,7 +2,7 @@
 
 ghost use Rattle.std.specs.Prelude.{◌≡◌, ◌++◌, [], ◌∷◌, None, Some, length, map, MatchOption, string_bytes};
 ghost use Rattle.xr_driver.specs.Command as spec;
-ghost use Rattle.xr_driver.specs.Command.{file_of, is_operand, is_ticks, means, other_of, stim_of, ticks_of};
+ghost use Rattle.xr_driver.specs.Command.{file_of, is_operand, is_ticks, means, other_of, route_file_of, stim_of, ticks_of};
 ghost use Rattle.xr_driver.specs.Decision.{command_of, names_of};
 
 use xr_stim::number;
@@ -29,6 +29,11 @@ pub enum Command<'w> {
     Asm(&'w str),
     /// Say whether a file is accepted.
     Check(&'w str),
+    /// Compile a file, and write its listing and the bounds of the routes that another file asks for.
+    Time {
+        file: &'w str,
+        routes: &'w str,
+    },
 }
 
 impl<'w> Command<'w> {
@@ -40,6 +45,7 @@ impl<'w> Command<'w> {
             Command::Run { file, .. } => file,
             Command::Asm(file) => file,
             Command::Check(file) => file,
+            Command::Time { file, .. } => file,
         }
     }
 
@@ -52,6 +58,20 @@ impl<'w> Command<'w> {
             Command::Run { stim, .. } => stim,
             Command::Asm(_) => None,
             Command::Check(_) => None,
+            Command::Time { .. } => None,
+        }
+    }
+
+    /// The file with the routes, where the command names one.
+    pub fn routes(self) -> Option<&'w str>
+        ensures { MatchOption result (route_file_of (command_of self.entry) ≡ None)
+            (λ name. route_file_of (command_of self.entry) ≡ Some name.now) }
+    {
+        match self {
+            Command::Run { .. } => None,
+            Command::Asm(_) => None,
+            Command::Check(_) => None,
+            Command::Time { routes, .. } => Some(routes),
         }
     }
 }
@@ -110,7 +130,9 @@ pub fn meaning(words: &[String]) -> Option<Command<'_>>
     }
     match behind {
         [file] => on_file(word.as_str(), file.as_str()),
-        _ => None,
+        [file, second] => on_files(word.as_str(), file.as_str(), second.as_str()),
+        [] => None,
+        [_, _, _, ..] => None,
     }
 }
 
@@ -127,6 +149,20 @@ fn on_file<'w>(word: &str, file: &'w str) -> Option<Command<'w>>
     }
     if word == "check" {
         return Some(Command::Check(file));
+    }
+    None
+}
+
+/// The command that another word and two files mean, if they mean one.
+fn on_files<'w>(word: &str, file: &'w str, second: &'w str) -> Option<Command<'w>>
+    ensures { MatchOption result (other_of word.now (file.now ∷ second.now ∷ []) ≡ None)
+        (λ command. other_of word.now (file.now ∷ second.now ∷ []) ≡ Some (command_of command)) }
+{
+    if names_file(file.as_bytes()) && names_file(second.as_bytes()) && word == "time" {
+        return Some(Command::Time {
+            file,
+            routes: second,
+        });
     }
     None
 }

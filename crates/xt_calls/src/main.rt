@@ -16,7 +16,8 @@ use std::thread::Threads;
 use xw_io::{FsShelf, Out, Shelf, Sink, StdSink};
 
 /// The files of cases.
-const FILES: [&str; 7] = [
+const FILES: [&str; 8] = [
+const FILES: [&str; 8] = [
     "words.txt",
     "texts.txt",
     "runs.txt",
@@ -24,6 +25,7 @@ const FILES: [&str; 7] = [
     "stimuli.txt",
     "selects.txt",
     "cores.txt",
+    "routes.txt",
 ];
 
 /// Ends with 1 where a case differs, a file can't be read or the output fails.
