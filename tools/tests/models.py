@@ -269,6 +269,22 @@ def staircase():
     return made + [(end + 100, "4A", lamps) for end, lamps in ends]
 
 
+def strobe():
+    """One thread executes an instruction a tick, so the stamps are counts of instructions."""
+    made, text, total, turn = [], int.from_bytes(b"tick", "little"), 0, 9
+    while text:
+        rise = turn + 11
+        total ^= text & 15
+        steps = 6  # a nibble goes into the sum
+        for bit in range(4):
+            steps += 15 + (7 if total & 1 else 4) - (bit == 3)  # the last turn doesn't branch back
+            total = total >> 1 ^ (0x8C if total & 1 else 0)
+        fall = rise + steps + 4
+        made += [(turn + 7, "4A", text), (rise, "1A", 1), (fall, "1A", 0)]
+        turn, text = fall + 6, text >> 4
+    return [*made, (turn + 5, "8A", total)]
+
+
 MODELS = {
     "bits": bits,
     "button": button,
@@ -294,6 +310,7 @@ MODELS = {
     "sieve": sieve,
     "sort": sort,
     "staircase": staircase,
+    "strobe": strobe,
 }
 
 # the edges of the wire at port 1B, of the examples that read it

@@ -28,6 +28,9 @@ PROGRAM = os.path.join(TOP, "crates", "xcsim", "out", "xcsim")
 RUNS = os.path.join(TOP, "crates", "xt_programs", "data", "runs.txt")
 STATUS = {"finished": 0, "trapped": 3, "stopped": 4, "stuck": 5}
 
+# of the route of strobe.xc, worked out by hand from its instructions
+BOUND = 93
+
 # without a model: their traces were worked out by hand
 BY_HAND = {"bus", "numbers", "pulse", "widths", "wrap"}
 
@@ -85,6 +88,23 @@ class Stored(unittest.TestCase):
             output = output_of(run.stdout, name)
             list(output.records())
             self.assertEqual(run.returncode, STATUS[output.end], name)
+
+    def test_the_strobe_is_high_for_no_longer_than_its_bound(self):
+        """And one time for just so long; its comment, and pages, tell the bound."""
+        edges = [int(it) for it in re.findall(r"^out 0 1A @(\d+) ", written(example("strobe.trace")), re.MULTILINE)]
+        widths = [fall - rise for rise, fall in zip(edges[::2], edges[1::2])]
+        self.assertEqual((len(widths), min(widths), max(widths), widths.index(max(widths))), (8, 85, BOUND + 4, 4))
+        route = re.fullmatch(r"# .*\nroute 0 (\d+):5 (\d+):5 3\n", written(example("strobe.routes")))
+        lines = written(example("strobe.xc")).splitlines()
+        self.assertEqual([lines[int(it) - 1] for it in route.groups()], ["    strobe <: 1;", "    strobe <: 0;"])
+        self.assertIn(f"`ticks {BOUND}`", written(example("strobe.xc")))
+        self.assertIn(f"the line `ticks {BOUND}`", written(os.path.join(TOP, "docs", "language.md")))
+
+    @unittest.skipUnless(os.access(PROGRAM, os.X_OK), "the program isn't built")
+    def test_the_program_tells_the_bound(self):
+        words = [PROGRAM, "time", example("strobe.xc"), example("strobe.routes")]
+        told = subprocess.run(words, capture_output=True, encoding="utf-8", check=False)
+        self.assertEqual((told.returncode, told.stderr, told.stdout.splitlines()[-1]), (0, "", f"ticks {BOUND}"))
 
     @unittest.skipUnless(os.access(PROGRAM, os.X_OK), "the program isn't built")
     def test_what_waits_is_refused_so_far(self):

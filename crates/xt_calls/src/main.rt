@@ -17,7 +17,6 @@ use xw_io::{FsShelf, Out, Shelf, Sink, StdSink};
 
 /// The files of cases.
 const FILES: [&str; 8] = [
-const FILES: [&str; 8] = [
     "words.txt",
     "texts.txt",
     "runs.txt",
