@@ -14,7 +14,7 @@ from . import mutate
 from .generate import program
 from .scratch import TOP
 
-TEXT, STIMULUS = "a.xc", "s.txt"
+TEXT, STIMULUS, ROUTES = "a.xc", "s.txt", "t.txt"
 TICKS = (1, 2, 15, 16, 100, 1_000, 20_000, 100_000, 199_999, 200_000)
 LONG = 4_194_305  # one byte more than a file may have
 
@@ -29,11 +29,12 @@ class Case:
     text: bytes
     stimulus: bytes | None = None
     forms: str = ""
+    routes: bytes | None = None
 
     def written(self) -> str:
         """As a line of JSON, which `read_case` reads."""
         parts = {"kind": self.kind, "forms": self.forms, "words": [base64.b64encode(it).decode() for it in self.words]}
-        files = {"text": self.text, "stimulus": self.stimulus}
+        files = {"text": self.text, "stimulus": self.stimulus, "routes": self.routes}
         return json.dumps({**parts, **{name: base64.b64encode(it).decode() for name, it in files.items() if it is not None}})
 
     def shown(self) -> str:
@@ -43,7 +44,7 @@ class Case:
     def put(self, room: str) -> None:
         """Writes the files into a folder that is empty."""
         os.makedirs(os.path.join(room, "folder"))
-        files = {TEXT: self.text, STIMULUS: self.stimulus, "long.xc": b" " * LONG if b"long.xc" in self.words else None}
+        files = {TEXT: self.text, STIMULUS: self.stimulus, ROUTES: self.routes, "long.xc": b" " * LONG if b"long.xc" in self.words else None}
         for name, it in files.items():
             if it is not None:
                 with open(os.path.join(room, name), "wb") as file:
@@ -52,8 +53,9 @@ class Case:
 
 def read_case(line: str) -> Case:
     parts = json.loads(line)
-    files = {name: base64.b64decode(parts[name]) for name in ("text", "stimulus") if name in parts}
-    return Case(parts["kind"], tuple(map(base64.b64decode, parts["words"])), files["text"], files.get("stimulus"), parts["forms"])
+    files = {name: base64.b64decode(parts[name]) for name in ("text", "stimulus", "routes") if name in parts}
+    words = tuple(map(base64.b64decode, parts["words"]))
+    return Case(parts["kind"], words, files["text"], files.get("stimulus"), parts["forms"], files.get("routes"))
 
 
 def texts_of_cases(path: str) -> list[bytes]:
@@ -119,12 +121,18 @@ def of_stimulus(chance: Random, texts: list[bytes]) -> Case:
     return Case("stimulus", running(chance, stimulus), program(chance).encode(), stimulus, "built")
 
 
+def of_routes(chance: Random, texts: list[bytes]) -> Case:
+    text = program(chance).encode()
+    routes = mutate.routes(chance, text) if chance.random() < 0.6 else mutate.bad_routes(chance, text)
+    return Case("routes", (b"time", TEXT.encode(), ROUTES.encode()), text, None, "built", routes)
+
+
 def of_words(chance: Random, texts: list[bytes]) -> Case:
     text = chance.choice((b"int main(void) { return 0; }", b"int main(void) { return }", mutate.changed(chance, chance.choice(texts))))
     return Case("words", mutate.command(chance), text, mutate.stimulus(chance))
 
 
-KINDS = (*[generated] * 6, *[of_all_forms] * 3, *[changed] * 6, extreme, *[of_stimulus] * 2, *[of_words] * 2)
+KINDS = (*[generated] * 6, *[of_all_forms] * 3, *[changed] * 6, extreme, *[of_stimulus] * 2, *[of_routes] * 2, *[of_words] * 2)
 
 
 def case(seed: int, number: int, texts: list[bytes]) -> Case:
@@ -139,7 +147,7 @@ def pieces_of(text: bytes, way: str) -> list[bytes]:
 
 def smaller(found: Case, fails: Callable[[Case], bool], tries: int) -> Case:
     """A case with fewer lines and then fewer tokens, that fails too. It is tried so many times at most."""
-    for name in ("stimulus", "text"):
+    for name in ("stimulus", "routes", "text"):
         for way in ("lines", "tokens"):
             pieces = pieces_of(getattr(found, name) or b"", way)
             size = max(len(pieces) // 2, 1)

@@ -82,7 +82,7 @@ class Trial:
 
             answer = call(tried.words)
             came.statuses[str(answer.status)] += 1
-            if answer.status in (1, 10) and (rule := re.search(rb"rule ([0-9]+)\n", answer.err)):
+            if answer.status in (1, 10, 13) and (rule := re.search(rb"rule ([0-9]+)\n", answer.err)):
                 came.rules[rule[1].decode()] += 1
             judge(tried, room, answer)
             wants("differs", call(tried.words) == answer, f"the same call for a second time: {answer.shown()}")

@@ -1,4 +1,4 @@
-"""Texts, stimuli and words that are changed by chance: from one source of chance always the same ones."""
+"""Texts, stimuli, routes and words that are changed by chance: from one source of chance always the same ones."""
 
 from __future__ import annotations
 
@@ -8,6 +8,7 @@ from typing import Callable, Sequence
 
 from .generate import PORTS
 
+LINE_END = b"\n"
 TOKEN = re.compile(
     rb"//[^\n]*|/\*.*?\*/|\s+|[A-Za-z0-9_]+|<<=|>>=|<:|:>|=>|==|!=|<=|>=|&&|\|\||<<|>>|\+\+|--|[-+*/%&|^]=|.",
     re.DOTALL,
@@ -155,13 +156,44 @@ def bad_stimulus(chance: Random) -> bytes:
     return changed(chance, text, (drop, double, swap, take_other, change_number, flip, put_byte, cut))
 
 
+def routes(chance: Random, text: bytes) -> bytes:
+    """Lines of routes between places of a text at which an operator or a name stands, as those of its code are."""
+    starts = [match.start() for match in re.finditer(rb"\w+(?= *(?:<:|:>))|(?<= )(?:[-+*/%&|^]|<<|>>|[<>]=?|[-+*/%&|^]=|==|!=)(?= )", text)]
+    main = text.find(b"main(")
+    inside = [at for at in starts if at > main]  # what stands in main is in the code, and in a function that isn't called is not
+    starts = [main, *chance.sample(inside, min(len(inside), 3))] if chance.random() < 0.7 else starts or [main]
+    places = ["%d:%d" % (text.count(LINE_END, 0, at) + 1, at - text.rfind(LINE_END, 0, at)) for at in starts]
+    lines = []
+    for _ in range(chance.choice((0, 1, 1, 1, 1, 2, 3, 16, 17))):
+        back = chance.choice((0, 0, 1, 2, 3, 10, 100, 1000))
+        gap = " " * chance.choice((1, 1, 1, 3))
+        parts = ["route", str(chance.choice((0, 0, 0, 0, 0, 0, 1, 3))), chance.choice(places), chance.choice(places), str(back)]
+        lines.append(gap[1:] + gap.join(parts) + chance.choice(("", "", " ")))
+        if chance.random() < 0.1:
+            lines.append(chance.choice(("", "   ", "# a comment", "  # route 0 1:1 1:1 0")))
+    end = chance.choice(("\n", "\n", "\r\n"))
+    return (end.join(lines) + chance.choice((end, end, ""))).encode()
+
+
+def bad_routes(chance: Random, text: bytes) -> bytes:
+    """Some that are changed."""
+    made = routes(chance, text)
+    if chance.random() < 0.3:
+        parts = [b"route", b"0", b"1", b":", b"1", b"2:1", b"0"]
+        others = (b"4", b"1001", b"1000", b"-1", b"+1", b"", b"x", b"1\t", b"\r", b"\xff", b"::", b"0" * 300 + b"1")
+        parts[chance.randrange(7)] = chance.choice((*LIMITS, *others))
+        name, core, line, colon, column, to, back = parts
+        made += b"\n" + b" ".join((name, core, line + colon + column, to, back)) + chance.choice((b"", b"\n", b" 5\n", b"\r\r\n"))
+    return changed(chance, made, (drop, double, swap, take_other, change_number, flip, put_byte, cut))
+
+
 NAMES = [*[b"a.xc"] * 4, b"s.txt", b"s.txt", b"none.xc", b"folder", b"folder/", b"folder/a.xc", b"folder/none", b"a.xc/", b"a.xc/b"]
 NAMES += [b"./a.xc", b"long.xc", b"/dev/null", b"/dev/zero", b"-", b"-a", b".", b"..", b"/", b"none/a.xc", b"a b", b"a\nb"]
 NAMES += [b"\xc3\xa9.xc", b"%s%n", b"a:1:1", b"x" * 255, b"x" * 256, b"x/" * 2500, b"\x01", b"", b"\xff.xc", b"\xed\xa0\x80", b"a.xc "]
 OPTIONS = [b"--ticks", b"--ticks", b"--ticks", b"--workers", b"--fast", b"--", b"--help", b"--version", b"--ticks=5", b"-ticks", b"---"]
 COUNTS = [b"1", b"2", b"16", b"100", b"1000", b"200000", b"200001", b"0", b"000001", b"0000001", b"+1", b"-1", b"1e3", b"", b" 1"]
 COUNTS += [b"99999999999999999999"]
-COMMANDS = [*[b"run"] * 6, b"check", b"check", b"asm", b"asm", b"debug", b"make", b"bench", b"walk", b"", b"RUN", b"run ", b"--help"]
+COMMANDS = [*[b"run"] * 6, b"time", b"check", b"check", b"asm", b"asm", b"debug", b"make", b"bench", b"walk", b"", b"RUN", b"run ", b"--help"]
 
 
 def command(chance: Random) -> tuple[bytes, ...]:

@@ -12,7 +12,7 @@ from typing import Optional
 from .clang import size_by_clang, size_of_listing
 from .scratch import TOP, write
 from .timing import Run, least, run
-from .xc import EIGHT, LINKS, LOOPS, PACES, SELECT_PACES, edges, endless, long_program, selects, waits
+from .xc import EIGHT, LINKS, LOOPS, PACES, SELECT_PACES, edges, endless, long_program, selects, turning, waits
 
 TICKS = 200_000
 
@@ -144,3 +144,17 @@ def long_row(size: int, room: str) -> dict:
     write(long_program(size), path)
     count = size_of_listing(call("asm", path).output).all
     return {"bytes": size, "check, s": round(best("check", path), 3), "asm, s": round(best("asm", path), 3), "instructions": count}
+
+
+def bounds_row(size: int, room: str) -> dict:
+    """How long the bounds of one and of sixteen routes take, past a loop of so many instructions."""
+    path, spec = (os.path.join(room, it) for it in ("loop.xc", "loop.routes"))
+    text, places, longest = turning(size)
+    write(text, path)
+    count, listing = size_of_listing(call("asm", path).output).all, best("asm", path)
+    row, is_right = {"instructions": count, "asm, s": round(listing, 3)}, True
+    for routes in (1, 16):
+        write(f"route 0 {places} 1000\n" * routes, spec)
+        is_right = is_right and call("time", path, spec).output.endswith(f"ticks {longest}\n" * routes)
+        row[f"{routes} routes, s" if routes > 1 else "1 route, s"] = round(best("time", path, spec) - listing, 3)
+    return {**row, "is right": "yes" if is_right else "no"}

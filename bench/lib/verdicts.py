@@ -7,6 +7,7 @@ import re
 from dataclasses import dataclass
 from typing import Iterator
 
+from .bounds import bounds
 from .cases import LONG, Case
 from .generate import PORTS
 from .mutate import LONGEST
@@ -21,9 +22,11 @@ def words_of_rule_299(page: str) -> list[str]:
 
 UNBUILT = words_of_rule_299(read(TOP, "docs", "language.md"))
 RULES = {*range(101, 107), 201, 202, 299, *range(301, 306), *range(401, 417), *range(501, 510), *range(601, 607), *range(701, 707)}
-STATUSES = (0, 1, 2, 3, 4, 5, 6, 7, 8, 9, 10, 11, 12, 15)
+STATUSES = (*range(14), 15)
 RUN = {b"finished": 0, b"stopped": 4, b"stuck": 5}  # the statuses of a run in which no thread trapped
-USAGE = b"usage: xcsim check FILE | asm FILE | run FILE [STIM] [--ticks N] [--workers W] | debug FILE STIM SCRIPT | make N | bench N\n"
+USAGE = b"usage: xcsim check FILE | asm FILE | run FILE [STIM] [--ticks N] [--workers W] | debug FILE STIM SCRIPT | make N | bench N | time FILE SPEC\n"
+
+OPERANDS = {b"check": (1,), b"asm": (1,), b"run": (1, 2), b"time": (2,)}  # how many a command has
 
 NUMBER = rb"(0|[1-9][0-9]*)"
 REFUSED = re.compile(rb":([1-9][0-9]*):([1-9][0-9]*): rule ([0-9]{3})\n")
@@ -31,6 +34,7 @@ HEADS = tuple(re.compile(it + rb"\n") for it in (rb"\.core ([0-3])", rb"\.words 
 PORT = re.compile(rb"\.port ([0-9]+[A-P]) (in|out|both)\n")
 ROOT = re.compile(rb"\.root " + NUMBER + rb"\n")
 INSTRUCTION = re.compile(NUMBER + rb": [A-Z]+( [a-zA-Z0-9]+(, [a-zA-Z0-9]+)*)? @[1-9][0-9]*:[1-9][0-9]*\n")
+BEHIND_CODE = re.compile(rb"^(trace\n|ticks )", re.MULTILINE)
 CHANNEL = re.compile(rb"\.chan [0-3] " + NUMBER + rb" [0-3] " + NUMBER + rb"\n")
 TAKEN = re.compile(rb"com ([0-3]) " + NUMBER + rb"\n")
 MOVED = re.compile(rb"(out|in) ([0-3]) ([0-9]+[A-P]) @" + NUMBER + rb" " + NUMBER + rb"\n")
@@ -70,11 +74,12 @@ class Command:
     file: bytes
     stimulus: bytes | None = None
     ticks: int = 100_000
+    routes: bytes | None = None
 
 
 def meant(words: tuple[bytes, ...]) -> Command | None:
     """What the words mean of that which the program does today, if anything."""
-    if not words or words[0] not in (b"check", b"asm", b"run"):
+    if not words or words[0] not in OPERANDS:
         return None
     operands: list[bytes] = []
     ticks, rest = None, iter(words[1:])
@@ -88,8 +93,10 @@ def meant(words: tuple[bytes, ...]) -> Command | None:
             return None
         else:
             operands.append(word)
-    if len(operands) not in ((1, 2) if words[0] == b"run" else (1,)):
+    if len(operands) not in OPERANDS[words[0]]:
         return None
+    if words[0] == b"time":
+        return Command(words[0], operands[0], routes=operands[1])
     return Command(words[0], *operands, **({} if ticks is None else {"ticks": ticks}))
 
 
@@ -134,13 +141,17 @@ def rule_of_line(line: bytes, before: int) -> tuple[int | None, int]:
     return (804 if value >= 2 ** PORTS[words[2].decode()] else None), tick
 
 
+def lines_of(text: bytes) -> list[bytes]:
+    """The lines of a text, without what ends them. A carriage return ends one before a line feed alone."""
+    *whole, last = text.split(b"\n")
+    return [it[:-1] if it.endswith(b"\r") else it for it in whole] + ([last] if last else [])
+
+
 def broken_line(stimulus: bytes) -> tuple[int, int] | None:
     """The first line of a stimulus that breaks a rule, and the least rule that it breaks."""
-    lines = stimulus.split(b"\n")
-    lines = lines[:-1] if lines[-1] == b"" else lines
     tick = 0
-    for number, line in enumerate(lines, 1):
-        rule, tick = rule_of_line(line[:-1] if line.endswith(b"\r") and (number < len(lines) or stimulus.endswith(b"\n")) else line, tick)
+    for number, line in enumerate(lines_of(stimulus), 1):
+        rule, tick = rule_of_line(line, tick)
         if rule or number > 100_000:
             return number, rule or 805
     return None
@@ -228,6 +239,19 @@ def judge_refusal(case: Case, command: Command, text: bytes, answer: Answer) -> 
     wants("refused", not case.forms or (case.forms == "all" and rule == 299), answer.shown())
 
 
+def judge_bounds(command: Command, routes: bytes, answer: Answer) -> None:
+    """Looks whether the bounds that a call wrote, or the line that it names, are those of its listing."""
+    code = code_of(answer.out)
+    lines = iter(code.splitlines(keepends=True))
+    wants("output", next(lines, b"") == b"code\n", answer.shown())
+    ports_of_listing(lines, b"")
+    numbers, broken = bounds(code.decode(), lines_of(routes))
+    due = Answer(0, code + b"".join(b"ticks %d\n" % it for it in numbers))
+    if broken:
+        due = Answer(13, code, command.routes + b":%d: rule %d\n" % broken)
+    wants("bounds", answer == due, f"{answer.shown()}, where {due.shown()} is due")
+
+
 def judge(case: Case, room: str, answer: Answer) -> None:
     """Looks whether an answer may be one to these words over these files; raises what is wrong."""
     wants("hang", answer.status is not None, answer.shown())
@@ -255,12 +279,20 @@ def judge(case: Case, room: str, answer: Answer) -> None:
         if due:
             wants("stimulus", answer == due, f"{answer.shown()}, where {due.shown()} is due")
             return
+    if command.routes is not None:
+        routes, due = load(room, command.routes)
+        if due:
+            wants("routes", answer == due, f"{answer.shown()}, where {due.shown()} is due")
+        else:
+            judge_bounds(command, routes, answer)
+        return
     judge_output(command, answer)
 
 
 def code_of(out: bytes) -> bytes:
     """The code section of an output."""
-    return out.partition(b"trace\n")[0]
+    end = BEHIND_CODE.search(out)
+    return out[: end.start()] if end else out
 
 
 def trace_of(out: bytes) -> bytes:
@@ -271,8 +303,8 @@ def agree(command: Command, answer: Answer, other: bytes, its: Answer) -> None:
     """Looks whether the answer of `check` or `asm` to the same text fits."""
     if answer.status == 1 or its.status == 1:
         wants("disagree", answer == its, f"{answer.shown()}, but {other.decode()}: {its.shown()}")
-    elif other == b"asm" and command.name == b"run" and answer.out:
-        wants("disagree", code_of(answer.out) == its.out, f"the code sections of run and asm differ: {answer.shown()}, {its.shown()}")
+    elif other == b"asm" and command.name in (b"run", b"time") and answer.out:
+        wants("disagree", code_of(answer.out) == its.out, f"the code sections of {command.name.decode()} and asm differ: {answer.shown()}, {its.shown()}")
 
 
 def is_front(shorter: bytes, longer: bytes) -> bool:

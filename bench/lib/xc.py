@@ -133,6 +133,16 @@ def long_program(size: int) -> str:
     return "".join(made) + " " * left + tail
 
 
+def turning(size: int) -> tuple[str, str, int]:
+    """A loop of at least so many instructions, the two places of the outputs around it, and how long a way between them is at most with 1,000
+    turns back: the first turn's test has an instruction less on it, and the last one lacks the jump."""
+    count = size // 3
+    head = "out port p = XS1_PORT_32A;\nint main(void) {\nunsigned a = 1;\np <: a;\nwhile (a) {\n"
+    text = head + "a=a+1;\n" * count + "}\np <: a;\nreturn 0;\n}\n"
+    turn = 2 + 3 * count + 1  # the test, the assignments, and the jump
+    return text, f"4:1 {count + 7}:1", turn - 3 + 999 * turn + turn - 1
+
+
 def outputs(size: int = LONGEST) -> str:
     """A program of so many bytes, full of outputs."""
     head, tail, line = "out port p = XS1_PORT_32A;\nint main(void) {\n", "return 0; }\n", "p<:4294967295;\n"

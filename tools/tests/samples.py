@@ -121,7 +121,7 @@ def refused_texts() -> Iterator[tuple[str, int, int, int]]:
                     lines.append(unescaped(rest))
                 elif mark == "+" and lines:
                     lines[-1] += unescaped(rest)
-                elif mark == "*" and lines:
+                elif mark == "*" and lines and rest[:1].isdigit():
                     count, _, text = rest.partition(" ")
                     lines[-1] += unescaped(text) * int(count)
                 elif mark in "=~" and (match := re.fullmatch(r"(\d{3}) at (\d+):(\d+)", rest)):

@@ -166,6 +166,11 @@ class Scripts(unittest.TestCase):
         self.assertEqual([row["is right"] for row in rows], ["yes", "yes"])
         self.assertTrue(self.call("image", "--case").startswith("case calls and branches"))
 
+    def test_bounds(self):
+        """The program that stands here tells none."""
+        rows = self.tables("bounds", status=1)["loops"]
+        self.assertEqual([(row["instructions"], row["is right"]) for row in rows], [(2, "no")] * 3)
+
     def test_run(self):
         rows = self.tables("run")["programs"]
         self.assertEqual([(row["program"], row["status"]) for row in rows], [("empty", 4), ("busy", 4), ("full", 4)])

@@ -14,21 +14,21 @@ from .samples import EXAMPLES, TOP, written
 
 sys.path.insert(0, os.path.join(TOP, "bench"))
 
-from lib import cases, fuzz, generate, mutate, verdicts
+from lib import bounds, cases, fuzz, generate, mutate, verdicts
 
 # Answers as xcsim should to the texts of the tests, but for those that hold the name of something wrong.
 PROGRAM = r"""#!/bin/sh
 refuses() { echo "$1" >&2; exit "$2"; }
 case $1 in
 check | asm | run) ;;
-*) refuses "usage: xcsim check FILE | asm FILE | run FILE [STIM] [--ticks N] [--workers W] | debug FILE STIM SCRIPT | make N | bench N" 2 ;;
+*) refuses "usage: xcsim check FILE | asm FILE | run FILE [STIM] [--ticks N] [--workers W] | debug FILE STIM SCRIPT | make N | bench N | time FILE SPEC" 2 ;;
 esac
 [ -e "$2" ] || refuses "no file $2" 6
 read -r text < "$2"
 case $text in
 crash) kill -SEGV $$ ;;
 hang) exec sleep 20 ;;
-status) exit 13 ;;
+status) exit 14 ;;
 refused) refuses "$2:1:1: rule 201" 1 ;;
 torn) [ "$1" = check ] || refuses "$2:1:1: rule 201" 1 ;;
 esac
@@ -55,7 +55,7 @@ class Made(unittest.TestCase):
         self.assertEqual(first, again)
         self.assertNotEqual(first, other)
         self.assertEqual([cases.read_case(it.written()) for it in first], first)
-        self.assertEqual({it.kind for it in first}, {"program", "all forms", "changed", "extreme", "stimulus", "words"})
+        self.assertEqual({it.kind for it in first}, {"program", "all forms", "changed", "extreme", "stimulus", "routes", "words"})
 
     def test_it_is_known_what_is_changed(self):
         texts = cases.stock()
@@ -123,6 +123,36 @@ class Made(unittest.TestCase):
         lines += [(b"\n" * 100_001, (100_001, 805)), (b"\n" * 100_000 + b"x", (100_001, 801)), (b"\n" * 100_000, None)]
         for text, wanted in lines:
             self.assertEqual(verdicts.broken_line(text), wanted, text[-30:])
+
+    def test_routes(self):
+        code = "code\n.core 0\n0: BRFT r0, 2 @1:1\n1: BRBU 0 @1:2\n2: FREET @1:3\n"
+        forms = [(b"route 0 1:1 1:3 2\r\n\n# x\n  route  0 01:2  1:3 00 ", ([4, 1], None)), (b"route 0 1:2 1:2 1", ([2], None))]
+        forms += [(b"route 0 1:1 1:3 2\r", ([], (1, 1001))), (b"route 0 1:1 1:3\nroute 4 1:1 1:3 0", ([], (1, 1001)))]
+        forms += [(b"route 4 1:1 1:3 1001", ([], (1, 1002))), (b"route 0 9:9 1:3 0\nroute 0 1:1 1:3 1001", ([], (2, 1002)))]
+        forms += [(b"route 0 1:1 9:9 0", ([], (1, 1003))), (b"route 3 1:1 1:3 0", ([], (1, 1003)))]
+        forms += [(b"#\n" + b"route 0 1:1 1:3 0\n" * 17, ([], (18, 1005))), (b"route 0 1:1 1:3 0\n" * 16, ([0] * 16, None))]
+        for text, wanted in forms:
+            self.assertEqual(bounds.bounds(code, verdicts.lines_of(text)), wanted, text[-30:])
+        for number in range(30):
+            text = generate.program(Random(number)).encode()
+            self.assertLessEqual(len(bounds.broken_route(verdicts.lines_of(mutate.routes(Random(number), text)))[0]), 16)
+
+    def test_bounds_of_the_cases(self):
+        """The numbers of the cases of xt_calls that were worked out by hand are those of their listings."""
+        tried = 0
+        for case in written(os.path.join(TOP, "crates", "xt_calls", "data", "routes.txt")).split("\n\n"):
+            _, is_there, rest = case.partition("\nfile t.txt\n")
+            shown = re.findall(r"^= (.*)$", case, re.MULTILINE)
+            status = re.search(r"^status (\d+)$", case, re.MULTILINE)
+            if not is_there or shown[:1] != ["code"] or status[1] not in ("0", "13"):
+                continue
+            text = "".join(f"{it[2:]}\n" if it[0] == "|" else it[2:] for it in rest.split("\n") if it[:1] in ("|", "/"))
+            numbers, broken = bounds.bounds("\n".join(shown), verdicts.lines_of(text.encode()))
+            self.assertEqual([it for it in shown if it.startswith("ticks")], [f"ticks {it}" for it in numbers], case)
+            named = [f"t.txt:{broken[0]}: rule {broken[1]}"] if broken else []
+            self.assertEqual(re.findall(r"^! (.*)$", case, re.MULTILINE), named, case)
+            tried += 1
+        self.assertGreater(tried, 5)
 
     def test_words(self):
         """Those of xt_calls that mean nothing, and others."""
