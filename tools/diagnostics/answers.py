@@ -10,7 +10,7 @@ from .hints import first_unbuilt, hint_of_grammar, place, unbuilt_words
 from .rules import Rule, read_rules
 from .source import Source
 
-REFUSED = re.compile(r"(.+?):([0-9]+)(?::([0-9]+))?: rule ([0-9]{3})")
+REFUSED = re.compile(r"(.+?):([0-9]+)(?::([0-9]+))?: rule ([0-9]{3,4})")
 OF_FILE = re.compile(r"(no file|too long|read fault) (.+)")
 USAGE = "usage: xcsim "
 FULL = "out of memory"

@@ -8,7 +8,7 @@ from dataclasses import dataclass
 
 from .words import HERE
 
-HEAD = re.compile(r"(rule [0-9]{3}|trap [a-z]+|line .+)")
+HEAD = re.compile(r"(rule [0-9]{3,4}|trap [a-z]+|line .+)")
 FIELD = re.compile(r"(broken|example|says|help): (.+)")
 
 

@@ -186,6 +186,11 @@ class Annotated(unittest.TestCase):
         self.assertIn("    9 |   p @ 100 <: 1;\n      |   ^\n          6  LDC r11, 0\n", text)
         self.assertIn("port 1A out, 2 outputs\n", text)
 
+    def test_bounds_behind_a_listing(self):
+        text = written(example("pulse.out")).partition("trace\n")[0]
+        wanted = called("annotate", "--source", example("pulse.xc"), text=text).stdout
+        self.assertEqual(called("annotate", "--source", example("pulse.xc"), text=text + "ticks 4294967296\nticks 0\n").stdout, wanted)
+
     def test_errors_of_an_example(self):
         text = called("annotate", "--source", example("outside.xc"), "--lines", text=output_of_example("outside")).stdout
         self.assertIn("   12 |     a[i] = i * i;  <- err 0 index\n", text.replace(written(example("outside.xc")).splitlines()[11], "    a[i] = i * i;"))

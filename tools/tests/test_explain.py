@@ -15,7 +15,7 @@ from .samples import TOP, data, example, listing_of, output_of_example, refused_
 from .test_commands import called
 
 RULES = read_rules()
-TOLD = [name for name in RULES if "rule 100" < name < "rule 900"]  # by docs/; scripts, which have rules from 901 on, are told by none yet
+TOLD = [name for name in RULES if name.startswith("rule ") and not "rule 900" < name < "rule 999"]  # by docs/; the rules of scripts aren't yet
 PAGES = os.path.join(TOP, "docs")
 
 
@@ -25,7 +25,7 @@ class Words(unittest.TestCase):
     def test_rows_of_the_pages(self):
         found = set()
         for name in (it for it in os.listdir(PAGES) if it.endswith(".md")):
-            for row in re.findall(r"^\| \d{3} \|.*$", written(os.path.join(PAGES, name)), re.MULTILINE):
+            for row in re.findall(r"^\| \d{3,4} \|.*$", written(os.path.join(PAGES, name)), re.MULTILINE):
                 number = row.split()[1]
                 found.add(f"rule {number}")
                 self.assertEqual(row, RULES[f"rule {number}"].row, f"{name} and tools/rules.txt")

@@ -12,7 +12,7 @@ from .samples import TOP, written
 HELP = written(os.path.join(TOP, "tools", "help.txt"))
 PAGE = os.path.join(TOP, "docs", "xcsim.1")
 FOLDER = os.path.join(TOP, "tools", "completion")
-COMMANDS = ["check", "run", "asm"]
+COMMANDS = ["check", "run", "asm", "time"]
 OPTIONS = ["--ticks", "--help", "--version"]
 ZSH = shutil.which("zsh")
 
@@ -40,7 +40,7 @@ def plain(text):
 
 class Words(unittest.TestCase):
     def test_commands_and_options(self):
-        self.assertEqual(re.findall(r"^  (\w+) FILE  ", HELP, re.MULTILINE), COMMANDS)
+        self.assertEqual(re.findall(r"^  (\w+) FILE(?:  | SPEC )", HELP, re.MULTILINE), COMMANDS)
         self.assertEqual(re.findall(r"^  (--\w+) ", HELP, re.MULTILINE), OPTIONS)
         for command in COMMANDS:
             self.assertRegex(written(os.path.join(TOP, "docs", "language.md")), rf"\n\| `{command} FILE[^`]*` \|")
@@ -51,7 +51,7 @@ class Words(unittest.TestCase):
 
     def test_man_page(self):
         text = written(PAGE)
-        self.assertEqual(re.findall(r'^\.BI (\w+) " FILE"$', text, re.MULTILINE), COMMANDS)
+        self.assertEqual(re.findall(r'^\.BI (\w+) " FILE(?: SPEC)?"$', text, re.MULTILINE), COMMANDS)
         found = re.findall(r"^\.BI? (\\-\\-\w+)", text[text.index(".SH OPTIONS") :], re.MULTILINE)
         self.assertEqual([it.replace("\\", "") for it in found], OPTIONS)
 
@@ -86,7 +86,7 @@ class Completion(unittest.TestCase):
         holder = tempfile.TemporaryDirectory()
         self.addCleanup(holder.cleanup)
         self.room = holder.name
-        for name in ("bus.xc", "bits.xc", "bus.stim", "notes.txt"):
+        for name in ("bus.xc", "bits.xc", "bus.stim", "bus.routes", "notes.txt"):
             with open(os.path.join(self.room, name), "w", encoding="utf-8"):
                 pass
         os.mkdir(os.path.join(self.room, "more"))
@@ -108,6 +108,8 @@ class Completion(unittest.TestCase):
             (["run", ""], ["bits.xc", "bus.xc", "more"]),
             (["run", "bus.xc", "-"], ["--ticks"]),
             (["run", "bus.xc", "b"], ["bus.stim"]),
+            (["time", "b"], ["bits.xc", "bus.xc"]),
+            (["time", "bus.xc", "b"], ["bus.routes"]),
             (["check", "bus.xc", "b"], ["bits.xc", "bus.xc"]),
             (["asm", "-"], []),
             (["run", "--ticks", ""], []),
@@ -134,6 +136,7 @@ class Completion(unittest.TestCase):
             ("xcsim run b", ["bits.xc", "bus.xc"], ["notes.txt"]),
             ("xcsim run --", ["--ticks"], ["bus.xc"]),
             ("xcsim run bus.xc b", ["bus.stim"], ["notes.txt"]),
+            ("xcsim time bus.xc b", ["bus.routes"], ["bus.stim"]),
         ]:
             told = self.in_zsh(words, expected)
             for it in expected:

@@ -67,7 +67,7 @@ class Listing:
 
 
 def read_listing(lines: Lines, has_trace: bool = True) -> Listing:
-    """Reads the lines from `code` up to `trace`, or up to the end, where there needn't be a trace."""
+    """Reads the lines from `code` up to `trace`, or up to the end, where there needn't be a trace. In its place bounds may stand then."""
     lines.take_exactly("code")
     listing = Listing()
     while lines.begins(".core"):
@@ -75,6 +75,8 @@ def read_listing(lines: Lines, has_trace: bool = True) -> Listing:
         listing.cores[core.number] = core
     while lines.begins(".chan"):
         read_channel(lines, listing)
+    while not has_trace and lines.begins("ticks"):
+        lines.take_number("ticks", below=2**64)
     listing.has_trace = has_trace or lines.text is not None
     if not listing.cores or listing.has_trace and lines.text != "trace":
         raise lines.refusal(what_follows(listing))
