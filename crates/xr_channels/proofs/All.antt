@@ -5,12 +5,9 @@ pub mod Chosen
 pub mod Rows
 pub mod OverLinks
 pub mod SideEnds
-pub mod Near
 pub mod Pauses
 pub mod QuietPauses
 pub mod QuietPlain
-pub mod NearPauses
-pub mod NearPlain
 pub mod Arrivals
 pub mod Moves
 pub mod Begins

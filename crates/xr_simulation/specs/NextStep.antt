@@ -328,7 +328,8 @@ module _ (g : Setting) (r : Runner) where
 
   -- A thread stands at its select, with j jumps between what is left: it takes events there, its enabled cases are set up, each one's
   -- vector leads to the case's code, and the default's stands behind the instruction that looks for an event once.
-  pub record StandsAtSelect (choices : List Choice) (otherwise : Option Body) (rest : List Item) (j pc : ℕ) (core : CoreState) : Type 0 where
+  pub record StandsAtSelect (choices : List Choice) (otherwise : Option Body) (rest : List Item) (j pc : ℕ)
+      (core : CoreState) : Type 0 where
     pub code : WaitsAt (home g r) pc otherwise
     pub armed : IsArmed resources_here r.thread choices core
     pub ends : (n : ℕ) (c : Choice) → slice_get choices n ≡ Some c → IsOnSide c.input.resource

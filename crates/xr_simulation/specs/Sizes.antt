@@ -1,4 +1,5 @@
--- How many words, timers, channel ends and watches a core has. No step changes that, so what the image plans a place for is there at each moment.
+-- How many words, timers, channel ends and watches a core has. No step changes that, so what the image plans a place for is there at
+-- each moment.
 use Rattle.std.specs.Prelude.{ℕ, length}
 use Rattle.xs_instr.specs.declared.image.CoreImage.{CoreImage}
 use Rattle.xs_instr.specs.declared.state.CoreState.{CoreState}

@@ -23,10 +23,6 @@ use Rattle.xr_channels.specs.ChannelsOverLinks.{ChannelsOverLinks}
 abbrev pub boxes_in : kernel.Kernel → List Inboxes → List Inboxes
 boxes_in K boxes = map (λ c. slice_index_or boxes c no_parcels) (two_sided K)
 
--- both sides of a channel are on a core
-abbrev pub AreSidesOn : kernel.Kernel → (channel core : ℕ) → Type 0
-AreSidesOn K c core = (side : Side) → core_of K c side ≡ core
-
 -- the line of a channel in the image
 abbrev pub IsLine : kernel.Kernel → (line channel : ℕ) → Type 0
 IsLine K line c = slice_get (two_sided K) line ≡ Some c

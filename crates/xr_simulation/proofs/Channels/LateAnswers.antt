@@ -1,39 +1,34 @@
 -- CHKCT ACK of an output whose offer isn't put yet: no answer can be there. Where another parcel stood first, the branch puts its offer and
 -- then errs.
-use Rattle.std.proofs.Common.{◌≡◌, ℕ, ◌+◌, ◌≤◌, ◌++◌, List, [], ◌∷◌, length, Option, Some, None, refl, sym, ap, ◌∙◌, subst, arith}
+use Rattle.std.proofs.Common.{◌≡◌, ℕ, ◌+◌, ◌≤◌, ◌++◌, List, [], ◌∷◌, Some, None, refl, sym, ap, ◌∙◌, subst, arith}
 use Rattle.std.specs.Prelude.{false, slice_set}
-use Rattle.xs_instr.specs.declared.state.CoreState.{CoreState}
 use Rattle.xs_instr.specs.declared.trace.Record.TheVariants.{Fault}
 use Rattle.xs_instr.specs.declared.trace.Trap.TheVariants.{Mismatch}
 use Rattle.xs_instr.specs.Did.{Traps}
-use Rattle.xs_instr.specs.Machine.{Step, stepped}
+use Rattle.xs_instr.specs.Machine.{stepped}
 use Rattle.xs_instr.specs.Slot.{slot, trapped}
-use Rattle.xc_meaning.specs.Runs.{acts_all}
-use Rattle.xc_meaning.specs.States.Branches.{Branch, runs, side_of}
+use Rattle.xc_meaning.specs.States.Branches.{Branch, runs}
 use Rattle.xc_meaning.specs.States.Channels.{Parcel, Side, offer, other_side, taken}
 use Rattle.xc_meaning.specs.States.Items.{awaits}
-use Rattle.xc_meaning.specs.States.Worlds.{go}
 use Rattle.xl_image.specs.Images.{pair_of}
-use Rattle.xr_match.specs.Lives.{Watched, watched_after}
 use Rattle.xr_match.specs.Meanings.{of_kernel}
 use Rattle.xr_match.specs.Sources.{Counted}
-use Rattle.xr_simulation.specs.Roles.{Roles, used_by}
+use Rattle.xr_simulation.specs.Roles.{used_by}
 use Rattle.xr_simulation.specs.Runners.{home}
 use Rattle.xr_simulation.specs.ThreadViews.{running}
-use Rattle.xr_simulation.specs.MatchStates.{MatchStates, none_rests}
+use Rattle.xr_simulation.specs.MatchStates.{none_rests}
 use Rattle.xr_simulation.specs.Transfers.{Transfer, owing}
-use Rattle.xr_simulation.specs.NextStep.{Errs, InTransfer, IsUnput, Runs}
+use Rattle.xr_simulation.specs.NextStep.{Errs, InTransfer, IsUnput}
 use Rattle.xr_simulation.proofs.Channels.Deliveries.{offer_outside}
-use Rattle.xr_simulation.proofs.Channels.EndRows.{AtEnd, Goal, boxes, checks_row, found_there, inside_there, put_there, side_end, taken_there}
+use Rattle.xr_simulation.proofs.Channels.EndRows.{AtEnd, Goal, boxes, checks_row, inside_there, put_there, side_end, taken_there}
 use Rattle.xr_simulation.proofs.Channels.Inboxes.{line_parcels}
-use Rattle.xr_simulation.proofs.Channels.InTransfers.{behind_step, followed}
+use Rattle.xr_simulation.proofs.Channels.InTransfers.{followed}
 use Rattle.xr_simulation.proofs.Channels.Puts as puts
 use Rattle.xr_simulation.proofs.Channels.Puts.{IsBehindPut, put_follows}
 use Rattle.xr_simulation.proofs.Channels.Worlds.{awaiting_errs}
 use Rattle.xr_simulation.proofs.Image.Lines.{line_known}
 use Rattle.xr_simulation.proofs.ItemCode.Evaluations.{err_acts}
 use Rattle.xr_simulation.proofs.OwnSteps.AnsweredTurns.{errs_answered}
-use Rattle.xr_simulation.proofs.OwnSteps.Events.{who_on}
 use Rattle.xr_simulation.proofs.Relation.CoreSteps.{other_same}
 use Rattle.xr_simulation.proofs.Relation.Lasting.{Follows, told_by}
 use Rattle.xr_simulation.proofs.Relation.Moments.{BranchAt, Moment, ThreadAt, branch_of, moment_of, thread_of}

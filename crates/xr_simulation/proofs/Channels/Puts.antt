@@ -1,9 +1,9 @@
 -- A late offer is put: the branch does its output while its thread stands where it is, and the machine stands still or something has
 -- come over a link.
-use Rattle.std.proofs.Common.{◌≡◌, ◌≢◌, ◌⊎◌, ℕ, ◌+◌, ◌*◌, ◌≤◌, inl, inr, List, [], ◌∷◌, ◌++◌, length, map, Option, Some, None, refl, sym, ap, ◌∙◌, subst, ⊎_elim, arith}
-use Rattle.std.specs.Prelude.{Bool, false, slice_get, slice_index_or}
+use Rattle.std.proofs.Common.{◌≡◌, ◌⊎◌, ℕ, ◌+◌, ◌*◌, ◌≤◌, inl, inr, List, [], ◌∷◌, length, map, Option, Some, None, refl, sym, ap, ◌∙◌, subst, ⊎_elim, arith}
+use Rattle.std.specs.Prelude.{false, slice_get, slice_index_or}
 use Rattle.std.proofs.Math.Nat.{mul-le-mul_left}
-use Rattle.std.proofs.lemmas.Option.{none-some, same_Some}
+use Rattle.std.proofs.lemmas.Option.{same_Some}
 use Rattle.xs_instr.specs.declared.state.CoreState.{CoreState}
 use Rattle.xs_instr.specs.declared.state.Mode.TheVariants.{Running}
 use Rattle.xs_instr.specs.declared.state.Thread.{Thread}
@@ -12,26 +12,24 @@ use Rattle.xc_meaning.specs.Counts.Families.{steps_of}
 use Rattle.xc_meaning.specs.Counts.KernelCounts.{greatest_count, kernel_bound}
 use Rattle.xc_kernel.specs.Plain as kernel
 use Rattle.xc_meaning.specs.Runs.{acts, acts_all}
-use Rattle.xc_meaning.specs.States.Branches.{Branch, ended, erred, runs, side_of}
-use Rattle.xc_meaning.specs.States.Channels.{Inboxes, Parcel, Side, offer, other_side}
+use Rattle.xc_meaning.specs.States.Branches.{ended, erred, runs, side_of}
+use Rattle.xc_meaning.specs.States.Channels.{Side, offer}
 use Rattle.xc_meaning.specs.States.Items.{Item, awaits, does}
 use Rattle.xc_meaning.specs.States.Worlds.{World, go}
-use Rattle.xl_chan.specs.Protocols.{Act}
 use Rattle.xl_expr.proofs.Lists.{get_set_same}
 use Rattle.xl_expr.proofs.ResourceParts.{others_same}
 use Rattle.xr_match.specs.Implements.{clock_of}
 use Rattle.xr_match.specs.Lives.{Life, Watched}
 use Rattle.xr_simulation.specs.Fits.{ItemsFit, PutsOutAt}
-use Rattle.xr_simulation.specs.Roles.{Role, Roles, empty, used_by}
+use Rattle.xr_simulation.specs.Roles.{empty, used_by}
 use Rattle.xr_simulation.specs.Runners.{Runner, footprint_of, shrunk}
-use Rattle.xr_simulation.specs.ThreadViews.{Guarantee, ThreadView, running}
+use Rattle.xr_simulation.specs.ThreadViews.{ThreadView, running}
 use Rattle.xr_simulation.specs.MatchStates.{MatchStates, ProgressBy, RunsBranch, ThreadIs, none_rests}
 use Rattle.xr_simulation.specs.Living.{AreNamed}
 use Rattle.xr_simulation.specs.Transfers.{GoesWith, Transfer, acts_left, all_but_first, in_phase, items_behind, spared, steps_left}
 use Rattle.xr_simulation.specs.NextStep.{Has, InTransfer, IsBehind, IsUnput, Runs, TakesSteps, cost, on_time, own_go}
-use Rattle.xr_simulation.specs.Wired.{AreWired, HasAlone, IsLine, IsTransferring, boxes_in}
+use Rattle.xr_simulation.specs.Wired.{AreWired, HasAlone, IsTransferring}
 use Rattle.xr_simulation.proofs.Channels.EndRows as row
-use Rattle.xr_simulation.proofs.Channels.InTransfers as inside
 use Rattle.xr_simulation.proofs.Channels.OwnSide.{alone_behind}
 use Rattle.xr_simulation.proofs.Channels.WiredMoves.{wired_so}
 use Rattle.xr_simulation.proofs.Channels.Worlds.{offered, offers_word}
@@ -44,7 +42,7 @@ use Rattle.xr_simulation.proofs.Relation.CoreSteps.{HasStepped}
 use Rattle.xr_simulation.proofs.Relation.Counts.{counts_own}
 use Rattle.xr_simulation.proofs.Relation.Lasting.{Follows, told_by}
 use Rattle.xr_simulation.proofs.Relation.Moments.{BranchAt, Moment, ThreadAt}
-use Rattle.xr_simulation.proofs.Relation.Seats.{role_cases, with_role}
+use Rattle.xr_simulation.proofs.Relation.Seats.{role_cases}
 use Rattle.xr_simulation.proofs.RelyGuarantee.Events.{events_on}
 use Rattle.xr_simulation.proofs.RelyGuarantee.Footprints.{IsWithin, transfer_shrinks, within_of_uses}
 use Rattle.xr_simulation.proofs.RelyGuarantee.Less.{uses_less}

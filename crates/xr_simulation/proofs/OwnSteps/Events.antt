@@ -431,32 +431,32 @@ module _ {moment : Moment none_rests} (thread_at : ThreadAt moment None)
           let o = only_thread t in
           let self = eq-eqb t t refl in
           answered thread_at o self e.left e.world own_effect may_rest' who_on w' piece event.stepped
-                (record {
-                  acted = all_acted;
-                  clocks = event.clocks;
-                  trace = event.trace ∙ ap (λ l. noted l e.made) st.trace ∙ sym e.is_next.trace;
-                  roles = roles_go_on g who c t st.roles r None runs_r s None (record { seated = seated; held = refl; sync = λ n f. inl f; branches = λ n m. inl m });
-                  reserves = reserves_of_others g who e.world (reserves_behind g who x.state st.lawful st.reserves piece e.world all_acted) who_on gives_as_before;
-                  used = used_on g who c t st.roles r None runs_r a e.left (st.used c a at_c) s None others_used
-                      (λ n taken. inr (ap (λ l. slice_get l n) (sym e.syncs) ∙ taken, λ owns. owns))
-                      (λ n owns. ap (λ l. slice_get l n) e.syncs ∙ (st.used c a at_c).owned t n r None runs_r owns)
-                      (λ n u f m. absurd m);
-                  same_role = same_role (used_by s None);
-                  far_role = λ d u ne. role_far who c t (used_by s None) d u ne;
-                  rests = λ u m none. absurd (false_true none);
-                  far_rests = λ d u ne none. absurd (false_true none);
-                  steps = event.steps;
-                  far_steps = event.far_steps;
-                  stand = own_stand;
-                  wired = wired;
-                  alone = own_alone;
-                  loose = loose_on;
-                  roots = own_roots;
-                  far_roots = own_far_roots;
-                  placed = own_placed;
-                  run = run_on;
-                  made = own_made;
-                })
+          (record {
+            acted = all_acted;
+            clocks = event.clocks;
+            trace = event.trace ∙ ap (λ l. noted l e.made) st.trace ∙ sym e.is_next.trace;
+            roles = roles_go_on g who c t st.roles r None runs_r s None (record { seated = seated; held = refl; sync = λ n f. inl f; branches = λ n m. inl m });
+            reserves = reserves_of_others g who e.world (reserves_behind g who x.state st.lawful st.reserves piece e.world all_acted) who_on gives_as_before;
+            used = used_on g who c t st.roles r None runs_r a e.left (st.used c a at_c) s None others_used
+                (λ n taken. inr (ap (λ l. slice_get l n) (sym e.syncs) ∙ taken, λ owns. owns))
+                (λ n owns. ap (λ l. slice_get l n) e.syncs ∙ (st.used c a at_c).owned t n r None runs_r owns)
+                (λ n u f m. absurd m);
+            same_role = same_role (used_by s None);
+            far_role = λ d u ne. role_far who c t (used_by s None) d u ne;
+            rests = λ u m none. absurd (false_true none);
+            far_rests = λ d u ne none. absurd (false_true none);
+            steps = event.steps;
+            far_steps = event.far_steps;
+            stand = own_stand;
+            wired = wired;
+            alone = own_alone;
+            loose = loose_on;
+            roots = own_roots;
+            far_roots = own_far_roots;
+            placed = own_placed;
+            run = run_on;
+            made = own_made;
+          })
         where
           false_true : false ≡ true → ⊥
           false_true f = cc
