@@ -9,7 +9,7 @@ use Rattle.xc_wellformed.specs.Each.{AnyNumber, AnyOutput, AnyInput, EachConditi
 use Rattle.xc_wellformed.specs.Levels.{IsLow, IsLowPlace, levels, levels_of_all}
 use Rattle.xc_wellformed.specs.Exits.{LeavesIn, AllLeaveIn, BranchesLeaveIn, CasesLeaveIn, DefaultLeavesIn, EachRootLeaves}
 use Rattle.xc_wellformed.specs.Parts as parts
-use Rattle.xc_wellformed.specs.Parts.{words_of, most_parts}
+use Rattle.xc_wellformed.specs.Parts.{words_of}
 use Rattle.xc_wellformed.proofs.Formed.{of_programs}
 use Rattle.xc_wellformed.proofs.FewRoots.{parts_are_few}
 use Rattle.xl_expr.specs.declared.plan.Plan.{Plan}
