@@ -4,7 +4,7 @@
 //
 // Ask for the greatest time: `./xcsim time examples/strobe.xc examples/strobe.routes` writes the listing and `ticks 93`. From the output
 // that raises the strobe to the one that lets it fall there are four steps more: one behind the first, and of the second LDC, SETC, OUT.
-// So the strobe is high for 97 ticks at most, in every run. Look at the trace: the eight strobes last 85 to 97 ticks, the fifth 97.
+// So the strobe is high for 97 ticks at most in each run that is written. Look at the trace: the eight strobes last 85 to 97 ticks.
 #define POLYNOMIAL 0x8C
 
 out port bus = XS1_PORT_4A;

@@ -29,7 +29,7 @@ pub record Balanced (pairs : List Pair) (cores : List CoreState) : Type 0 where
   pub eight : (k : ℕ) (p : Pair) (side : Side) → slice_get pairs k ≡ Some p →
       IsEight cores (end_of_side p side) (end_of_side p (other_side side))
 
--- What stands between the sides of channels whose two ends are each on one core: nothing is ever on a link.
+-- What stands between the sides of channels while no link has an item.
 pub record Local (pairs : List Pair) (cores : List CoreState) (inboxes : List Inboxes) (g : Ghosts) : Type 0 where
   pub wires : Channels pairs cores no_links inboxes g
   pub balanced : Balanced pairs cores
