@@ -5,10 +5,10 @@ _xcsim() {
     COMPREPLY=()
     if [ "$COMP_CWORD" -eq 1 ]; then
         mapfile -t COMPREPLY < <(compgen -W "check run asm time --help --version" -- "$word")
-    elif [ "$before" = --ticks ]; then
+    elif [ "$before" = --ticks ] || [ "$before" = --workers ]; then
         : # a number
     elif [ "$command" = run ] && [[ $word == -* ]]; then
-        mapfile -t COMPREPLY < <(compgen -W "--ticks" -- "$word")
+        mapfile -t COMPREPLY < <(compgen -W "--ticks --workers" -- "$word")
     elif [[ $command =~ ^(check|run|asm|time)$ ]]; then
         local ending=xc
         if [ "$command" = run ] && [[ $before == *.xc ]]; then ending=stim; fi

@@ -13,7 +13,7 @@ HELP = written(os.path.join(TOP, "tools", "help.txt"))
 PAGE = os.path.join(TOP, "docs", "xcsim.1")
 FOLDER = os.path.join(TOP, "tools", "completion")
 COMMANDS = ["check", "run", "asm", "time"]
-OPTIONS = ["--ticks", "--help", "--version"]
+OPTIONS = ["--ticks", "--workers", "--help", "--version"]
 ZSH = shutil.which("zsh")
 
 # in a pseudo terminal of its own, as the completion system has it; what is offered is asked for by a widget
@@ -46,7 +46,7 @@ class Words(unittest.TestCase):
             self.assertRegex(written(os.path.join(TOP, "docs", "language.md")), rf"\n\| `{command} FILE[^`]*` \|")
 
     def test_each_has_an_example(self):
-        for word in [*COMMANDS, "--ticks"]:
+        for word in [*COMMANDS, "--ticks", "--workers"]:
             self.assertRegex(HELP, rf"(?m)^  {word} .*\n +xcsim .*\b{word.lstrip('-')}\b", word)
 
     def test_man_page(self):
@@ -106,13 +106,14 @@ class Completion(unittest.TestCase):
             (["run", "b"], ["bits.xc", "bus.xc"]),
             (["check", "m"], ["more"]),
             (["run", ""], ["bits.xc", "bus.xc", "more"]),
-            (["run", "bus.xc", "-"], ["--ticks"]),
+            (["run", "bus.xc", "-"], ["--ticks", "--workers"]),
             (["run", "bus.xc", "b"], ["bus.stim"]),
             (["time", "b"], ["bits.xc", "bus.xc"]),
             (["time", "bus.xc", "b"], ["bus.routes"]),
             (["check", "bus.xc", "b"], ["bits.xc", "bus.xc"]),
             (["asm", "-"], []),
             (["run", "--ticks", ""], []),
+            (["run", "--workers", ""], []),
             (["run", "--ticks", "5", "bu"], ["bus.xc"]),
             (["walk", ""], []),
         ]:
@@ -134,7 +135,7 @@ class Completion(unittest.TestCase):
             ("xcsim ", [*COMMANDS, "say whether a text is accepted"], ["bus.xc"]),
             ("xcsim --", ["--help", "--version", "the commit"], ["bus.xc"]),
             ("xcsim run b", ["bits.xc", "bus.xc"], ["notes.txt"]),
-            ("xcsim run --", ["--ticks"], ["bus.xc"]),
+            ("xcsim run --", ["--ticks", "--workers"], ["bus.xc"]),
             ("xcsim run bus.xc b", ["bus.stim"], ["notes.txt"]),
             ("xcsim time bus.xc b", ["bus.routes"], ["bus.stim"]),
         ]:

@@ -48,3 +48,5 @@ fn main(rt: HostRuntime) -> ExitCode {
 
 #[cfg(test)]
 mod deepest;
+#[cfg(test)]
+mod meeting;

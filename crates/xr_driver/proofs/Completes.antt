@@ -92,7 +92,7 @@ module _ (files : List File) where
   -- all that is done rests on the second file too, which is bad
   second_bad_done : (out : Span) (c : Command) (name text : List ℕ) (s : Stim) (status : ℕ) → second_of c ≡ Some name → IsBad files name →
       IsStimOf (Some files) (stim_of c) s → DoneWith files c text s out status
-  second_bad_done out (Run file ticks stim) name text s status names bad of =
+  second_bad_done out (Run file ticks workers stim) name text s status names bad of =
       let its = text_of_stim files stim name s names of in absurd (not_bad name its.0 its.1 bad)
   second_bad_done out (Asm file) name text s status names bad of = absurd (cc)
   second_bad_done out (Check file) name text s status names bad of = absurd (cc)
@@ -231,11 +231,11 @@ module _ (words : List (List ℕ)) (shelf : Loads) (out err : Span) (files : Lis
       inr (all_causes (Asm file) m 0
       (with_done files out (Asm file) text compiled.program no_stim 0 is compiled.means_so unnamed (λ name e. absurd (cc))
       (record { L = L; compiled = compiled; status_is = refl; output = g })))
-  by_decided o (ran file ticks stim text s L lines word trapped m h compiled stimulus lockstep of_program) g =
+  by_decided o (ran file ticks workers stim text s L lines word trapped m h compiled stimulus lockstep of_program) g =
       let is = subst (λ fs. IsFileOf fs file text) told h in
       let of = subst (λ fs. IsStimOf fs stim s) told stimulus in
-      inr (all_causes (Run file ticks stim) m (status_of_run trapped word)
-      (with_done files out (Run file ticks stim) text compiled.program s (status_of_run trapped word) is compiled.means_so of
+      inr (all_causes (Run file ticks workers stim) m (status_of_run trapped word)
+      (with_done files out (Run file ticks workers stim) text compiled.program s (status_of_run trapped word) is compiled.means_so of
       (λ name e. let its = text_of_stim files stim name s e of in (its.0, its.1)) (record {
         L = L;
         lines = lines;

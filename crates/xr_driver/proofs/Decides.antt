@@ -1,5 +1,5 @@
 -- The rows of the answers, for a file's name as the program has it.
-use Rattle.std.proofs.Common.{Bor, ◌≡◌, ◌≤◌, ℕ, Bool, List, Option, None, Some, refl, sym, subst}
+use Rattle.std.proofs.Common.{Bor, ◌≡◌, ◌≤◌, ℕ, List, Option, None, Some, Ok, Err, IfOk, refl, ap, ◌∙◌, sym, subst}
 use Rattle.std.specs.Prelude.{Result, IsErrAnd}
 use Rattle.std.proofs.lemmas.Result.{err_from_is_err_and}
 use Rattle.xw_io.specs.Outside.{Rose, IsFileOf, IsMissing, IsTooLong}
@@ -10,22 +10,31 @@ use Rattle.xs_instr.specs.declared.image.Image.{Image}
 use Rattle.xs_instr.specs.declared.image.Stim.{Stim}
 use Rattle.xf_time.specs.Bounds.{AreBounds, IsFirstBroken as IsFirstBrokenOn}
 use Rattle.xf_time.proofs.Threads.{numbers_hold}
-use Rattle.xs_instr.specs.declared.trace.EndWord.{EndWord}
-use Rattle.xs_instr.specs.declared.trace.Record.{Record}
 use Rattle.xs_instr.specs.Valid.{IsGoodStim}
-use Rattle.xr_driver.specs.Answers.{Decided, Outcome, missing, too_long, read_fault, refused, bad_stim, checked, assembled, ran, timed, bad_route, no_memory, says, prints, prints_and_says, status_of_run}
-use Rattle.xr_driver.specs.Command.{Command, Run, Asm, Check, Time, file_of, route_file_of, second_of, stim_of}
-use Rattle.xr_driver.specs.Decision.{command_of}
+use Rattle.xr_driver.specs.Answers.{Decided, Outcome, missing, too_long, read_fault, refused, bad_stim, checked, assembled, ran, timed, bad_route, no_memory, says, prints, prints_and_says}
+use Rattle.xr_driver.specs.Command.{Command, Run, Asm, Check, Time, file_of, means, route_file_of, second_of, stim_of}
+use Rattle.xr_driver.specs.Decision.{command_of, outcome_of, outcome_of_run}
+use Rattle.xr_driver.specs.Next.{IsNext, IsNextOf, IsNextOn, IsTaskFor}
+use Rattle.xr_driver.specs.declared.decide.Decision.{Decision}
+use Rattle.xr_driver.specs.declared.decide.Printed.TheVariants.{Nothing}
+use Rattle.xr_driver.specs.declared.decide.Line.TheVariants.{NoMemory}
+use Rattle.xr_driver.specs.declared.prepare.Next.{Next}
+use Rattle.xr_driver.specs.declared.prepare.Next.TheVariants.{Done, Left}
+use Rattle.xr_driver.specs.declared.prepare.Task.{Task}
+use Rattle.xr_windows.specs.Telling.{IsLockstep}
+use Rattle.xr_windows.specs.declared.run.Run.{Run as WholeRun}
+use Rattle.xw_words.specs.declared.memory.Memory.{Memory}
 use Rattle.xr_driver.specs.declared.words.Command.TheVariants.{Run as RunCommand}
 use Rattle.xr_driver.specs.Due.{HasAccepted, IsDue, of_text}
-use Rattle.xr_driver.specs.Lines.{accepted_line, bad_line, broken_line, code_section, no_file_line, no_memory_line, read_fault_line, run_output, time_output, too_long_line}
+use Rattle.xr_driver.specs.Lines.{accepted_line, bad_line, broken_line, code_section, no_file_line, no_memory_line, read_fault_line, time_output, too_long_line}
 use Rattle.xr_driver.specs.Outside.{Loads}
 use Rattle.xr_driver.specs.Parts.{AreInputs, AreRead, IsAnswer, IsAnswerOn, IsAnswerWith, IsTextAt}
 use Rattle.xr_driver.specs.Reads.{IsKernelIn, RefusesOf, refusal_of}
 use Rattle.xr_driver.specs.declared.files.Inputs.{Inputs}
 use Rattle.xr_driver.specs.declared.files.Refused.{Refused}
-use Rattle.xr_driver.specs.Runs.{IsCompiled, IsRunFor, IsStimOf, no_stim, unnamed}
+use Rattle.xr_driver.specs.Runs.{IsCompiled, IsStimOf, no_stim, unnamed}
 use Rattle.xr_driver.proofs.ProgramRuns.{run_beside}
+use Rattle.xr_driver.proofs.Rounds.{run_for}
 use Rattle.xr_driver.proofs.Since.{answered_since}
 use Rattle.xr_front.specs.Rules.{First, IsKernelOf}
 use Rattle.xr_stim.specs.Stimulus.{IsFirstBroken}
@@ -77,20 +86,20 @@ bad_line_at shelf c name accepted names text line rule told first words meant =
 
 -- the file of the stimulus, and that of the routes, is the one that is named behind the text's
 pub stim_is_second : (c : Command) (name : List ℕ) → stim_of c ≡ Some name → second_of c ≡ Some name
-stim_is_second (Run file ticks stim) name e = e
+stim_is_second (Run file ticks workers stim) name e = e
 stim_is_second (Asm file) name e = absurd (cc)
 stim_is_second (Check file) name e = absurd (cc)
 stim_is_second (Time file routes) name e = absurd (cc)
 
 pub route_file_is_second : (c : Command) (name : List ℕ) → route_file_of c ≡ Some name → second_of c ≡ Some name
-route_file_is_second (Run file ticks stim) name e = absurd (cc)
+route_file_is_second (Run file ticks workers stim) name e = absurd (cc)
 route_file_is_second (Asm file) name e = absurd (cc)
 route_file_is_second (Check file) name e = absurd (cc)
 route_file_is_second (Time file routes) name e = e
 
 -- a command with a stimulus names no routes
 no_routes_with_stim : (c : Command) (name : List ℕ) → stim_of c ≡ Some name → route_file_of c ≡ None
-no_routes_with_stim (Run file ticks stim) name e = refl
+no_routes_with_stim (Run file ticks workers stim) name e = refl
 no_routes_with_stim (Asm file) name e = refl
 no_routes_with_stim (Check file) name e = refl
 no_routes_with_stim (Time file routes) name e = absurd (cc)
@@ -153,11 +162,11 @@ pub all_without_memory : (c : Command) (K : Kernel) (inputs : Inputs) → IsAnsw
 all_without_memory c K inputs shelf read words meant = no_memory
 
 -- a run, with a stimulus that is named or without one
-pub run_at : (file : Bor (List ℕ)) (stim : Option (Bor (List ℕ))) (ticks : ℕ) (K : Kernel) (inputs : Inputs) (o : Outcome) →
-    ((f : List ℕ) (name : Option (List ℕ)) → IsAnswerOn (Run f ticks name) K inputs o) →
-    IsAnswerOn (command_of (RunCommand file stim ticks)) K inputs o
-run_at file None ticks K inputs o answer = answer file.now None
-run_at file (Some stim) ticks K inputs o answer = answer file.now (Some stim.now)
+pub run_at : (file : Bor (List ℕ)) (stim : Option (Bor (List ℕ))) (ticks workers : ℕ) (K : Kernel) (inputs : Inputs) (next : Next) →
+    ((f : List ℕ) (name : Option (List ℕ)) → IsNextOn (Run f ticks workers name) K inputs next) →
+    IsNextOn (command_of (RunCommand file stim ticks workers)) K inputs next
+run_at file None ticks workers K inputs next is = is file.now None
+run_at file (Some stim) ticks workers K inputs next is = is file.now (Some stim.now)
 
 pub checked_at : (file : List ℕ) (K : Kernel) (inputs : Inputs) → IsAnswerOn (Check file) K inputs (prints 0 accepted_line)
 checked_at file K inputs shelf read words meant = checked file read.text read.kernel.program meant read.told read.kernel.accepted
@@ -174,12 +183,45 @@ module _ (K : Kernel) (L : Image) (is : (text : List ℕ) → IsKernelOf text K 
 pub image_without_memory : (c : Command) (L : Image) (inputs : Inputs) → IsAnswerWith c L inputs (says 12 no_memory_line)
 image_without_memory c L inputs shelf compiled words meant = no_memory
 
-pub ran_at : (file : List ℕ) (ticks : ℕ) (name : Option (List ℕ)) (L : Image) (inputs : Inputs) → IsGoodStim inputs.stim →
-    (lines : List Record) (word : EndWord) (trapped : Bool) → IsRunFor L inputs.stim ticks lines word trapped →
-    IsAnswerWith (Run file ticks name) L inputs (prints (status_of_run trapped word) (run_output L lines word))
-ran_at file ticks name L inputs good lines word trapped lockstep shelf is words meant =
-    ran file ticks name is.text inputs.stim L lines word trapped meant is.told is.compiled is.inputs_are.stim lockstep
-    (run_beside is.text L inputs.stim is.compiled good ticks lines word trapped lockstep)
+-- a run that is left, and what it tells
+pub left_at : (K : Kernel) (L : Image) → ((text : List ℕ) → IsKernelOf text K → IsCompiled text L) → (file : List ℕ) (name : Option (List ℕ))
+    (ticks workers : ℕ) (inputs : Inputs) → IsGoodStim inputs.stim →
+    IsNextOn (Run file ticks workers name) K inputs (Left (record { image = L; stim = inputs.stim; ticks = ticks; workers = workers }))
+left_at K L is file name ticks workers inputs good shelf read = record {
+  file = file;
+  stim_file = name;
+  is_run = refl;
+  text = read.text;
+  told = read.told;
+  compiled = is read.text read.kernel;
+  stimulus = read.inputs_are.stim;
+  good = good;
+}
+
+pub next_without_memory : (c : Command) (K : Kernel) (inputs : Inputs) (d : Decision) →
+    d ≡ record { status = 12; printed = Nothing; line = NoMemory } → IsNextOn c K inputs (Done d)
+next_without_memory c K inputs d is shelf read =
+    subst (λ x. IsNextOf shelf c (Done x)) (sym is) (λ words meant. no_memory, tt)
+
+pub meant_next : (words : List (List ℕ)) (shelf : Loads) (c : Command) (next : Next) → means words ≡ Some c → IsNextOf shelf c next →
+    IsNext words shelf next
+meant_next words shelf c (Done d) meant is = (is.0 words meant, is.1)
+meant_next words shelf c (Left task) meant is = record { command = c; meant = meant; of = is }
+
+run_decided : (words : List (List ℕ)) (shelf : Loads) (task : Task) (r : Result WholeRun Memory) → IsTaskFor words shelf.files task →
+    IfOk r (λ run. IsLockstep task.image task.stim task.ticks run) → Decided words shelf (outcome_of_run task.image r)
+run_decided words shelf task (Err memory) is so = no_memory
+run_decided words shelf task (Ok run) is so =
+    let of = is.of in
+    let lockstep = run_for task.image task.stim of.compiled.valid task.ticks run so in
+    ran of.file task.ticks task.workers of.stim_file of.text task.stim task.image run.trace run.end run.trapped
+    (is.meant ∙ ap Some of.is_run) of.told of.compiled of.stimulus lockstep
+    (run_beside of.text task.image task.stim of.compiled of.good task.ticks run.trace run.end run.trapped lockstep)
+
+pub after_run : (words : List (List ℕ)) (shelf : Loads) (task : Task) (r : Result WholeRun Memory) (d : Decision) →
+    outcome_of d ≡ outcome_of_run task.image r → IsTaskFor words shelf.files task →
+    IfOk r (λ run. IsLockstep task.image task.stim task.ticks run) → Decided words shelf (outcome_of d)
+after_run words shelf task r d e is so = subst (λ o. Decided words shelf o) (sym e) (run_decided words shelf task r is so)
 
 -- the routes are those of this file
 module _ (file name : List ℕ) (L : Image) (inputs : Inputs) where

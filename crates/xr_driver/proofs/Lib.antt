@@ -2,6 +2,7 @@ mod Carried
 mod Completes
 mod Decides
 mod Given
+mod Limits
 mod OnlyCauses
 mod OtherWords
 mod ProgramRuns

@@ -42,7 +42,7 @@ module _ (words : List (List ℕ)) (shelf : Loads) (out err : Span) where
   without_output : (s : ℕ) → (s ≡ 0 → ⊥) → (s ≤ 2) ⊎ (6 ≤ s) → OutputCauses words shelf s
   without_output s some (inl few) = record {
     done = λ e. absurd (some e);
-    finished = λ e file ticks stim m. absurd (some e);
+    finished = λ e file ticks workers stim m. absurd (some e);
     bounded = λ e file name m. absurd (some e);
     trapped = λ e. absurd (omega (arith, few, e));
     stopped = λ e. absurd (omega (arith, few, e));
@@ -50,7 +50,7 @@ module _ (words : List (List ℕ)) (shelf : Loads) (out err : Span) where
   }
   without_output s some (inr more) = record {
     done = λ e. absurd (some e);
-    finished = λ e file ticks stim m. absurd (some e);
+    finished = λ e file ticks workers stim m. absurd (some e);
     bounded = λ e file name m. absurd (some e);
     trapped = λ e. absurd (omega (arith, more, e));
     stopped = λ e. absurd (omega (arith, more, e));
@@ -62,11 +62,11 @@ module _ (words : List (List ℕ)) (shelf : Loads) (out err : Span) where
 
   -- a command that is no run, and is done
   all_done : (c : Command) (text : List ℕ) (P : List Item) → means words ≡ Some c → IsFileOf shelf.files (file_of c) text → IsAccepted text P →
-      ((file : List ℕ) (ticks : ℕ) (stim : Option (List ℕ)) → c ≡ Run file ticks stim → ⊥) →
+      ((file : List ℕ) (ticks workers : ℕ) (stim : Option (List ℕ)) → c ≡ Run file ticks workers stim → ⊥) →
       ((file name : List ℕ) → c ≡ Time file name → WasTimed words shelf BreaksNone) → OutputCauses words shelf 0
   all_done c text P m told accepted no_run bounds = record {
     done = λ e. (c, m, (text, told, (P, accepted)));
-    finished = λ e file ticks stim m'. absurd (no_run file ticks stim (same_command c (Run file ticks stim) (sym m ∙ m')));
+    finished = λ e file ticks workers stim m'. absurd (no_run file ticks workers stim (same_command c (Run file ticks workers stim) (sym m ∙ m')));
     bounded = λ e file name m'. bounds file name (same_command c (Time file name) (sym m ∙ m'));
     trapped = λ e. absurd (omega (arith, e));
     stopped = λ e. absurd (omega (arith, e));
@@ -74,16 +74,17 @@ module _ (words : List (List ℕ)) (shelf : Loads) (out err : Span) where
   }
 
   -- a run, by its end
-  ran_so : (file : List ℕ) (ticks : ℕ) (stim : Option (List ℕ)) (text : List ℕ) (s : Stim) (L : Image) (lines : List Record)
-      (word : EndWord) (trapped : Bool) → means words ≡ Some (Run file ticks stim) → IsFileOf shelf.files file text → IsCompiled text L →
+  ran_so : (file : List ℕ) (ticks workers : ℕ) (stim : Option (List ℕ)) (text : List ℕ) (s : Stim) (L : Image) (lines : List Record)
+      (word : EndWord) (trapped : Bool) → means words ≡ Some (Run file ticks workers stim) → IsFileOf shelf.files file text → IsCompiled text L →
       IsStimOf shelf.files stim s → IsRunFor L s ticks lines word trapped → OutputCauses words shelf (status_of_run trapped word)
-  ran_so file ticks stim text s L lines word trapped m told compiled stimulus lockstep = by_end trapped word lockstep
+  ran_so file ticks workers stim text s L lines word trapped m told compiled stimulus lockstep = by_end trapped word lockstep
     where
       so : (IsSo : EndWord → Bool → Type 0) (trapped : Bool) (word : EndWord) → IsRunFor L s ticks lines word trapped → IsSo word trapped →
           WasRun words shelf IsSo
       so IsSo trapped word lockstep h = record {
         file = file;
         ticks = ticks;
+        workers = workers;
         stim = stim;
         means_run = m;
         text = text;
@@ -99,29 +100,29 @@ module _ (words : List (List ℕ)) (shelf : Loads) (out err : Span) where
         is_so = h;
       }
 
-      run_is_not_time : (f n : List ℕ) → Run file ticks stim ≡ Time f n → ⊥
+      run_is_not_time : (f n : List ℕ) → Run file ticks workers stim ≡ Time f n → ⊥
       run_is_not_time f n e = cc
 
       by_end : (trapped : Bool) (word : EndWord) → IsRunFor L s ticks lines word trapped → OutputCauses words shelf (status_of_run trapped word)
       by_end true word run = record {
         done = λ e. absurd (omega (arith, e));
-        finished = λ e f t st m'. absurd (omega (arith, e));
+        finished = λ e f t w st m'. absurd (omega (arith, e));
         bounded = λ e f n m'. absurd (omega (arith, e));
         trapped = λ e. so (λ w t. t ≡ true) true word run refl;
         stopped = λ e. absurd (omega (arith, e));
         stuck = λ e. absurd (omega (arith, e));
       }
       by_end false Finished run = record {
-        done = λ e. (Run file ticks stim, m, (text, told, (compiled.program, compiled.means_so)));
-        finished = λ e f t st m'. so (λ w t. (w ≡ Finished) × (t ≡ false)) false Finished run (refl, refl);
-        bounded = λ e f n m'. absurd (run_is_not_time f n (same_command (Run file ticks stim) (Time f n) (sym m ∙ m')));
+        done = λ e. (Run file ticks workers stim, m, (text, told, (compiled.program, compiled.means_so)));
+        finished = λ e f t w st m'. so (λ w t. (w ≡ Finished) × (t ≡ false)) false Finished run (refl, refl);
+        bounded = λ e f n m'. absurd (run_is_not_time f n (same_command (Run file ticks workers stim) (Time f n) (sym m ∙ m')));
         trapped = λ e. absurd (omega (arith, e));
         stopped = λ e. absurd (omega (arith, e));
         stuck = λ e. absurd (omega (arith, e));
       }
       by_end false Trapped run = record {
         done = λ e. absurd (omega (arith, e));
-        finished = λ e f t st m'. absurd (omega (arith, e));
+        finished = λ e f t w st m'. absurd (omega (arith, e));
         bounded = λ e f n m'. absurd (omega (arith, e));
         trapped = λ e. so (λ w t. t ≡ true) false Trapped run (run.trapped_only_with_a_trap refl);
         stopped = λ e. absurd (omega (arith, e));
@@ -129,7 +130,7 @@ module _ (words : List (List ℕ)) (shelf : Loads) (out err : Span) where
       }
       by_end false Stuck run = record {
         done = λ e. absurd (omega (arith, e));
-        finished = λ e f t st m'. absurd (omega (arith, e));
+        finished = λ e f t w st m'. absurd (omega (arith, e));
         bounded = λ e f n m'. absurd (omega (arith, e));
         trapped = λ e. absurd (omega (arith, e));
         stopped = λ e. absurd (omega (arith, e));
@@ -137,7 +138,7 @@ module _ (words : List (List ℕ)) (shelf : Loads) (out err : Span) where
       }
       by_end false Stopped run = record {
         done = λ e. absurd (omega (arith, e));
-        finished = λ e f t st m'. absurd (omega (arith, e));
+        finished = λ e f t w st m'. absurd (omega (arith, e));
         bounded = λ e f n m'. absurd (omega (arith, e));
         trapped = λ e. absurd (omega (arith, e));
         stopped = λ e. so (λ w t. (w ≡ Stopped) × (t ≡ false)) false Stopped run (refl, refl);
@@ -240,15 +241,15 @@ module _ (words : List (List ℕ)) (shelf : Loads) (out err : Span) where
     others = inl (omega arith);
   }
   by_decided o (checked file text P m told accepted) g =
-      printed 0 (omega arith, inl refl) (all_done (Check file) text P m told accepted (λ f t s e. cc) (λ f n e. absurd (cc)))
+      printed 0 (omega arith, inl refl) (all_done (Check file) text P m told accepted (λ f t w s e. cc) (λ f n e. absurd (cc)))
   by_decided o (assembled file text L m told compiled) g =
-      printed 0 (omega arith, inl refl) (all_done (Asm file) text compiled.program m told compiled.means_so (λ f t s e. cc) (λ f n e. absurd (cc)))
-  by_decided o (ran file ticks stim text s L lines word trapped m told compiled stimulus lockstep beside) g =
+      printed 0 (omega arith, inl refl) (all_done (Asm file) text compiled.program m told compiled.means_so (λ f t w s e. cc) (λ f n e. absurd (cc)))
+  by_decided o (ran file ticks workers stim text s L lines word trapped m told compiled stimulus lockstep beside) g =
       printed (status_of_run trapped word) (run_status trapped word)
-      (ran_so file ticks stim text s L lines word trapped m told compiled stimulus lockstep)
+      (ran_so file ticks workers stim text s L lines word trapped m told compiled stimulus lockstep)
   by_decided o (timed L name asked numbers are bounds unbroken kept) g =
       printed 0 (omega arith, inl refl)
-      (all_done (Time are.file name) are.text are.compiled.program are.meant are.told are.compiled.means_so (λ f t s e. cc)
+      (all_done (Time are.file name) are.text are.compiled.program are.meant are.told are.compiled.means_so (λ f t w s e. cc)
       (λ f n e. (L, name, asked, are, unbroken)))
   by_decided o (bad_route L name asked line rule are first) g = record {
     refused = λ e. absurd (omega (arith, e));

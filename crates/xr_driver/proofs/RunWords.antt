@@ -1,114 +1,151 @@
 -- The words behind `run`, one by one.
 use Rattle.std.proofs.Common.{◌≡◌, Bool, true, false, ℕ, List, [], ◌∷◌, ◌++◌, length, refl, ap, arith, ◌∙◌, sym, map, take, drop, ◌≤◌, ◌-◌}
 use Rattle.std.proofs.lemmas.List.{append_assoc, take_all}
-use Rattle.std.specs.Prelude.{Option, Some, None, is_none, is_some, slice_index_or, unwrap_or, if◌then◌else◌, option_and_then}
+use Rattle.std.specs.Prelude.{Option, Some, None, slice_index_or, unwrap_or, if◌then◌else◌, option_and_then}
 use Rattle.std.specs.Option.{option_map}
-use Rattle.xr_driver.specs.Command.{Command, RunWords, default_ticks, is_operand, is_ticks, run_on, run_words, ticks_of, with_number, with_operand, with_ticks}
+use Rattle.xr_driver.specs.Command.{Command, RunWords, default_ticks, default_workers, is_operand, is_ticks, is_workers, run_on, run_words, ticks_of, with_operand, with_tick_number, with_ticks, with_worker_number, with_workers, workers_of}
+use Rattle.xr_driver.specs.Decision.{tell_ticks, tell_workers, told_with}
+use Rattle.xr_driver.specs.declared.words.Told.{Told}
 
--- the command of a run with these operands and perhaps a number of ticks, and with what other words are
-abbrev joined : List (List ℕ) → Option ℕ → RunWords → Option Command
-joined operands None behind = run_on (operands ++ behind.operands) (unwrap_or behind.ticks default_ticks)
-joined operands (Some n) behind = if is_none behind.ticks then run_on (operands ++ behind.operands) n else None
+-- of a number that is told in front and behind, the one that is, where it is told at most once
+abbrev one_of : Option ℕ → Option ℕ → Option (Option ℕ)
+one_of None behind = Some behind
+one_of (Some n) None = Some (Some n)
+one_of (Some n) (Some m) = None
 
--- the command of a run with these operands and perhaps a number of ticks in front of these words
-abbrev pub run_from : List (List ℕ) → Option ℕ → List (List ℕ) → Option Command
-run_from operands ticks words = option_and_then (joined operands ticks) (run_words words)
+-- the run of these operands with these numbers
+abbrev with_numbers : List (List ℕ) → Option ℕ → Option ℕ → Option Command
+with_numbers operands ticks workers = run_on operands (unwrap_or ticks default_ticks) (unwrap_or workers default_workers)
+
+-- the command of a run with these operands and what options tell, and with what other words are
+abbrev joined : List (List ℕ) → Told → RunWords → Option Command
+joined operands told behind =
+    option_and_then (λ ticks. option_and_then (with_numbers (operands ++ behind.operands) ticks) (one_of told.workers behind.workers))
+    (one_of told.ticks behind.ticks)
+
+-- the command of a run with these operands and what options tell, in front of these words
+abbrev pub run_from : List (List ℕ) → Told → List (List ℕ) → Option Command
+run_from operands told words = option_and_then (joined operands told) (run_words words)
 
 -- an operand is next
-pub from_operand : (operands : List (List ℕ)) (ticks : Option ℕ) (word : List ℕ) (rest : List (List ℕ)) → is_operand word ≡ true →
-    run_from operands ticks (word ∷ rest) ≡ run_from (operands ++ word ∷ []) ticks rest
-from_operand operands ticks word rest e = ap (option_and_then (joined operands ticks)) (words_are rest) ∙ by (run_words rest)
+pub from_operand : (operands : List (List ℕ)) (told : Told) (word : List ℕ) (rest : List (List ℕ)) → is_operand word ≡ true →
+    run_from operands told (word ∷ rest) ≡ run_from (operands ++ word ∷ []) told rest
+from_operand operands told word rest e = ap (option_and_then (joined operands told)) (words_are rest) ∙ by (run_words rest)
   where
     words_are : (rest : List (List ℕ)) → run_words (word ∷ rest) ≡ option_map (with_operand word) (run_words rest)
     words_are [] = rw e refl
     words_are (next ∷ behind) = rw e refl
 
-    all_are : (behind : List (List ℕ)) → operands ++ word ∷ behind ≡ (operands ++ word ∷ []) ++ behind
-    all_are behind = sym (append_assoc operands (word ∷ []) behind)
-
-    moved : (ticks : Option ℕ) (behind : RunWords) →
-        joined operands ticks (with_operand word behind) ≡ joined (operands ++ word ∷ []) ticks behind
-    moved None behind = ap (λ all. run_on all (unwrap_or behind.ticks default_ticks)) (all_are behind.operands)
-    moved (Some n) behind = ap (λ all. if is_none behind.ticks then run_on all n else None) (all_are behind.operands)
-
     by : (o : Option RunWords) →
-        option_and_then (joined operands ticks) (option_map (with_operand word) o) ≡ option_and_then (joined (operands ++ word ∷ []) ticks) o
+        option_and_then (joined operands told) (option_map (with_operand word) o) ≡ option_and_then (joined (operands ++ word ∷ []) told) o
     by None = refl
-    by (Some behind) = moved ticks behind
+    by (Some behind) =
+        ap (λ all. option_and_then (λ ticks. option_and_then (with_numbers all ticks) (one_of told.workers behind.workers))
+        (one_of told.ticks behind.ticks))
+        (sym (append_assoc operands (word ∷ []) behind.operands))
 
 -- three operands are too many
-from_three : (a b c : List ℕ) (ticks : Option ℕ) (words : List (List ℕ)) → run_from (a ∷ b ∷ c ∷ []) ticks words ≡ None
-from_three a b c ticks words = by ticks (run_words words)
+from_three : (a b c : List ℕ) (told : Told) (words : List (List ℕ)) → run_from (a ∷ b ∷ c ∷ []) told words ≡ None
+from_three a b c told words = by (run_words words)
   where
-    nothing : Option Command
-    nothing = None
+    by_workers : (o : Option (Option ℕ)) (ticks : Option ℕ) (behind : List (List ℕ)) →
+        option_and_then (with_numbers (a ∷ b ∷ c ∷ behind) ticks) o ≡ None
+    by_workers None ticks behind = refl
+    by_workers (Some workers) ticks behind = refl
 
-    by : (ticks : Option ℕ) (o : Option RunWords) → option_and_then (joined (a ∷ b ∷ c ∷ []) ticks) o ≡ None
-    by None None = refl
-    by (Some n) None = refl
-    by None (Some behind) = refl
-    by (Some n) (Some behind) = either (is_none behind.ticks)
-      where
-        either : (t : Bool) → (if t then nothing else nothing) ≡ nothing
-        either true = refl
-        either false = refl
+    by_ticks : (o : Option (Option ℕ)) (p : Option (Option ℕ)) (behind : List (List ℕ)) →
+        option_and_then (λ ticks. option_and_then (with_numbers (a ∷ b ∷ c ∷ behind) ticks) p) o ≡ None
+    by_ticks None p behind = refl
+    by_ticks (Some ticks) p behind = by_workers p ticks behind
 
-pub from_full : (operands : List (List ℕ)) (ticks : Option ℕ) (word : List ℕ) (rest : List (List ℕ)) →
-    length operands ≡ 2 → is_operand word ≡ true → run_from operands ticks (word ∷ rest) ≡ None
-from_full (a ∷ b ∷ []) ticks word rest full e = from_operand (a ∷ b ∷ []) ticks word rest e ∙ from_three a b word ticks rest
-from_full [] ticks word rest full e = absurd (cc)
-from_full (a ∷ []) ticks word rest full e = absurd (cc)
-from_full (a ∷ b ∷ c ∷ operands) ticks word rest full e = absurd (cc)
-
--- a word that is neither an operand nor the option
-pub from_other : (operands : List (List ℕ)) (ticks : Option ℕ) (word next : List ℕ) (rest : List (List ℕ)) → is_operand word ≡ false →
-    is_ticks word ≡ false → run_from operands ticks (word ∷ next ∷ rest) ≡ None
-from_other operands ticks word next rest e f = rw (e, f) refl
-
--- the option with its number
-pub from_ticks : (operands : List (List ℕ)) (word next : List ℕ) (n : ℕ) (rest : List (List ℕ)) → is_operand word ≡ false →
-    is_ticks word ≡ true → ticks_of next ≡ Some n → run_from operands None (word ∷ next ∷ rest) ≡ run_from operands (Some n) rest
-from_ticks operands word next n rest e f is = rw (e, f, is) (by (run_words rest))
-  where
-    told : (t : Option ℕ) (behind : List (List ℕ)) →
-        option_and_then (joined operands None) (with_number n (record { operands = behind; ticks = t }))
-        ≡ joined operands (Some n) (record { operands = behind; ticks = t })
-    told None behind = refl
-    told (Some m) behind = refl
-
-    by : (o : Option RunWords) →
-        option_and_then (joined operands None) (with_ticks (Some n) o) ≡ option_and_then (joined operands (Some n)) o
+    by : (o : Option RunWords) → option_and_then (joined (a ∷ b ∷ c ∷ []) told) o ≡ None
     by None = refl
-    by (Some behind) = told behind.ticks behind.operands
+    by (Some behind) = by_ticks (one_of told.ticks behind.ticks) (one_of told.workers behind.workers) behind.operands
 
--- the option for the second time
-pub from_twice : (operands : List (List ℕ)) (n : ℕ) (word next : List ℕ) (rest : List (List ℕ)) → is_operand word ≡ false →
-    run_from operands (Some n) (word ∷ next ∷ rest) ≡ None
-from_twice operands n word next rest e = rw e (either (is_ticks word))
-  where
-    told : (m : ℕ) (t : Option ℕ) (behind : List (List ℕ)) →
-        option_and_then (joined operands (Some n)) (with_number m (record { operands = behind; ticks = t })) ≡ None
-    told m None behind = refl
-    told m (Some k) behind = refl
+pub from_full : (operands : List (List ℕ)) (told : Told) (word : List ℕ) (rest : List (List ℕ)) →
+    length operands ≡ 2 → is_operand word ≡ true → run_from operands told (word ∷ rest) ≡ None
+from_full (a ∷ b ∷ []) told word rest full e = from_operand (a ∷ b ∷ []) told word rest e ∙ from_three a b word told rest
+from_full [] told word rest full e = absurd (cc)
+from_full (a ∷ []) told word rest full e = absurd (cc)
+from_full (a ∷ b ∷ c ∷ operands) told word rest full e = absurd (cc)
 
-    by : (o : Option ℕ) (p : Option RunWords) → option_and_then (joined operands (Some n)) (with_ticks o p) ≡ None
-    by None None = refl
-    by None (Some behind) = refl
-    by (Some m) None = refl
-    by (Some m) (Some behind) = told m behind.ticks behind.operands
+-- words behind `run` that tell these operands and numbers
+abbrev words_at : List (List ℕ) → (ticks workers : Option ℕ) → RunWords
+words_at operands ticks workers = record { operands = operands; ticks = ticks; workers = workers }
 
-    either : (t : Bool) →
-        option_and_then (joined operands (Some n)) (if t then with_ticks (ticks_of next) (run_words rest) else None) ≡ None
-    either true = by (ticks_of next) (run_words rest)
-    either false = refl
+-- what options tell in front of other words, with one more of them
+module _ (operands : List (List ℕ)) where
+  abbrev told_before : Option Told → Option RunWords → Option Command
+  told_before told words = option_and_then (λ t. option_and_then (joined operands t) words) told
 
-some_is : (o : Option ℕ) → is_some o ≡ true → (n : ℕ) × (o ≡ Some n)
-some_is None e = absurd (cc)
-some_is (Some n) e = (n, refl)
+  ticks_before : (a b : Option ℕ) (n : ℕ) (o : Option RunWords) →
+      option_and_then (joined operands (record { ticks = a; workers = b })) (with_ticks (Some n) o)
+      ≡ told_before (tell_ticks (record { ticks = a; workers = b }) n) o
+  ticks_before None b n None = refl
+  ticks_before (Some m) b n None = refl
+  ticks_before a b n (Some behind) = by a behind.ticks
+    where
+      by : (a c : Option ℕ) →
+          option_and_then (joined operands (record { ticks = a; workers = b })) (with_tick_number n (words_at behind.operands c behind.workers))
+          ≡ told_before (tell_ticks (record { ticks = a; workers = b }) n) (Some (words_at behind.operands c behind.workers))
+      by None None = refl
+      by None (Some k) = refl
+      by (Some m) None = refl
+      by (Some m) (Some k) = refl
 
-none_is : (o : Option ℕ) → is_some o ≡ false → o ≡ None
-none_is None e = refl
-none_is (Some n) e = absurd (cc)
+  workers_before : (a b : Option ℕ) (n : ℕ) (o : Option RunWords) →
+      option_and_then (joined operands (record { ticks = a; workers = b })) (with_workers (Some n) o)
+      ≡ told_before (tell_workers (record { ticks = a; workers = b }) n) o
+  workers_before a None n None = refl
+  workers_before a (Some m) n None = refl
+  workers_before a b n (Some behind) = by a b behind.ticks behind.workers
+    where
+      by : (a b c d : Option ℕ) →
+          option_and_then (joined operands (record { ticks = a; workers = b })) (with_worker_number n (words_at behind.operands c d))
+          ≡ told_before (tell_workers (record { ticks = a; workers = b }) n) (Some (words_at behind.operands c d))
+      by a None c None = refl
+      by None None None (Some k) = refl
+      by None None (Some m) (Some k) = refl
+      by (Some j) None None (Some k) = refl
+      by (Some j) None (Some m) (Some k) = refl
+      by None (Some w) None None = refl
+      by None (Some w) (Some m) None = refl
+      by (Some j) (Some w) None None = refl
+      by (Some j) (Some w) (Some m) None = refl
+      by a (Some w) c (Some k) = refl
+
+  -- the same of the next word, which is no number
+  no_ticks : (told : Told) (o : Option RunWords) (p : Option ℕ) →
+      option_and_then (joined operands told) (with_ticks p o) ≡ told_before (option_and_then (tell_ticks told) p) o
+  no_ticks told None None = refl
+  no_ticks told (Some behind) None = refl
+  no_ticks told o (Some n) = ticks_before told.ticks told.workers n o
+
+  no_workers : (told : Told) (o : Option RunWords) (p : Option ℕ) →
+      option_and_then (joined operands told) (with_workers p o) ≡ told_before (option_and_then (tell_workers told) p) o
+  no_workers told None None = refl
+  no_workers told (Some behind) None = refl
+  no_workers told o (Some n) = workers_before told.ticks told.workers n o
+
+  -- a word that is no operand is next, and another one behind it
+  pub from_option : (told : Told) (word next : List ℕ) (rest : List (List ℕ)) → is_operand word ≡ false →
+      run_from operands told (word ∷ next ∷ rest) ≡ told_before (told_with word next told) (run_words rest)
+  from_option told word next rest e = rw e (by (is_ticks word) (is_workers word))
+    where
+      words_by : Bool → Bool → Option RunWords
+      words_by t w =
+          if t then with_ticks (ticks_of next) (run_words rest)
+          else (if w then with_workers (workers_of next) (run_words rest) else None)
+
+      told_by : Bool → Bool → Option Told
+      told_by t w =
+          if t then option_and_then (tell_ticks told) (ticks_of next)
+          else (if w then option_and_then (tell_workers told) (workers_of next) else None)
+
+      by : (t w : Bool) → option_and_then (joined operands told) (words_by t w) ≡ told_before (told_by t w) (run_words rest)
+      by true w = no_ticks told (run_words rest) (ticks_of next)
+      by false true = no_workers told (run_words rest) (workers_of next)
+      by false false = refl
 
 -- the same of words that the program holds
 module _ {A : Type 0} (text : A → List ℕ) where
@@ -126,42 +163,38 @@ module _ {A : Type 0} (text : A → List ℕ) where
   two_are words first second d e h is k also =
       first_is words first d h is ∙ ap (λ ws. text first ∷ ws) (first_is (behind_first words) second e k also)
 
-  module _ (all : Option Command) (operands : List (List ℕ)) (ticks : Option ℕ) (words : List A) (first d : A)
-      (some : 1 ≤ length words) (is : first ≡ slice_index_or words 0 d) (known : all ≡ run_from operands ticks (map text words)) where
+  module _ (all : Option Command) (operands : List (List ℕ)) (told : Told) (words : List A) (first d : A)
+      (some : 1 ≤ length words) (is : first ≡ slice_index_or words 0 d) (known : all ≡ run_from operands told (map text words)) where
     abbrev rest : List (List ℕ)
     rest = map text (behind_first words)
 
-    one : all ≡ run_from operands ticks (text first ∷ rest)
-    one = known ∙ ap (run_from operands ticks) (first_is words first d some is)
+    one : all ≡ run_from operands told (text first ∷ rest)
+    one = known ∙ ap (run_from operands told) (first_is words first d some is)
 
     pub operand_next : (after : List (List ℕ)) → is_operand (text first) ≡ true → after ≡ operands ++ text first ∷ [] →
-        all ≡ run_from after ticks (map text (behind_first words))
+        all ≡ run_from after told (map text (behind_first words))
     operand_next after e more =
-        one ∙ from_operand operands ticks (text first) rest e ∙ ap (λ o. run_from o ticks rest) (sym more)
+        one ∙ from_operand operands told (text first) rest e ∙ ap (λ o. run_from o told rest) (sym more)
 
     pub too_many : is_operand (text first) ≡ true → length operands ≡ 2 → all ≡ None
-    too_many e full = one ∙ from_full operands ticks (text first) rest full e
+    too_many e full = one ∙ from_full operands told (text first) rest full e
 
     module _ (second k : A) (more : 1 ≤ length (behind_first words)) (also : second ≡ slice_index_or (behind_first words) 0 k)
         (other : is_operand (text first) ≡ false) where
       abbrev last : List (List ℕ)
       last = map text (behind_first (behind_first words))
 
-      two : all ≡ run_from operands ticks (text first ∷ text second ∷ last)
-      two = known ∙ ap (run_from operands ticks) (two_are words first second d k some is more also)
+      two : all ≡ told_before operands (told_with (text first) (text second) told) (run_words last)
+      two =
+          known ∙ ap (run_from operands told) (two_are words first second d k some is more also)
+          ∙ from_option operands told (text first) (text second) last other
 
-      with_told : (told : Option ℕ) → ticks ≡ told → all ≡ run_from operands told (text first ∷ text second ∷ last)
-      with_told told e = two ∙ ap (λ t. run_from operands t (text first ∷ text second ∷ last)) e
+      with_known : (o : Option Told) → told_with (text first) (text second) told ≡ o → all ≡ told_before operands o (run_words last)
+      with_known o e = two ∙ ap (λ t. told_before operands t (run_words last)) e
 
-      pub no_option : is_ticks (text first) ≡ false → all ≡ None
-      no_option f = two ∙ from_other operands ticks (text first) (text second) last other f
+      pub no_option : told_with (text first) (text second) told ≡ None → all ≡ None
+      no_option e = with_known None e
 
-      pub twice : is_some ticks ≡ true → all ≡ None
-      twice told =
-          let there = some_is ticks told in
-          with_told (Some there.0) there.1 ∙ from_twice operands there.0 (text first) (text second) last other
-
-      pub ticks_next : (n : ℕ) → is_ticks (text first) ≡ true → ticks_of (text second) ≡ Some n → is_some ticks ≡ false →
-          all ≡ run_from operands (Some n) (map text (behind_first (behind_first words)))
-      ticks_next n f number none =
-          with_told None (none_is ticks none) ∙ from_ticks operands (text first) (text second) n last other f number
+      pub option_next : (after : Told) → told_with (text first) (text second) told ≡ Some after →
+          all ≡ run_from operands after (map text (behind_first (behind_first words)))
+      option_next after e = with_known (Some after) e

@@ -24,8 +24,8 @@ module _ (words : List (List ℕ)) (shelf : Loads) (faults misses longs : ℕ) (
   decided_since o (bad_stim name line rule bad) = bad_stim name line rule bad
   decided_since o (checked file text P meant told accepted) = checked file text P meant told accepted
   decided_since o (assembled file text L meant told compiled) = assembled file text L meant told compiled
-  decided_since o (ran file ticks stim text s L lines word trapped meant told compiled stimulus lockstep of_program) =
-      ran file ticks stim text s L lines word trapped meant told compiled stimulus lockstep of_program
+  decided_since o (ran file ticks workers stim text s L lines word trapped meant told compiled stimulus lockstep of_program) =
+      ran file ticks workers stim text s L lines word trapped meant told compiled stimulus lockstep of_program
   decided_since o (timed L name asked numbers are bounds unbroken kept) = timed L name asked numbers are bounds unbroken kept
   decided_since o (bad_route L name asked line rule are first) = bad_route L name asked line rule are first
   decided_since o no_memory = no_memory

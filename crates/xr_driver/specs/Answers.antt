@@ -93,8 +93,8 @@ pub data Decided (words : List (List ℕ)) (shelf : Loads) : Outcome → Type 0 
   assembled : (file text : List ℕ) (L : Image) → means words ≡ Some (Asm file) →
       IsFileOf shelf.files file text → IsCompiled text L →
       Decided words shelf (prints 0 (code_section L))
-  ran : (file : List ℕ) (ticks : ℕ) (stim : Option (List ℕ)) (text : List ℕ) (s : Stim) (L : Image) (lines : List Record)
-      (word : EndWord) (trapped : Bool) → means words ≡ Some (Run file ticks stim) →
+  ran : (file : List ℕ) (ticks workers : ℕ) (stim : Option (List ℕ)) (text : List ℕ) (s : Stim) (L : Image) (lines : List Record)
+      (word : EndWord) (trapped : Bool) → means words ≡ Some (Run file ticks workers stim) →
       IsFileOf shelf.files file text → (compiled : IsCompiled text L) → IsStimOf shelf.files stim s →
       IsRunFor L s ticks lines word trapped → IsRunOf compiled.program L s ticks lines word →
       Decided words shelf (prints (status_of_run trapped word) (run_output L lines word))

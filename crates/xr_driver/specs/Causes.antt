@@ -31,8 +31,9 @@ OfDue words files P = (c : Command) × (means words ≡ Some c) × ((name : List
 pub record WasRun (words : List (List ℕ)) (shelf : Loads) (IsSo : EndWord → Bool → Type 0) : Type 0 where
   pub file : List ℕ
   pub ticks : ℕ
+  pub workers : ℕ
   pub stim : Option (List ℕ)
-  pub means_run : means words ≡ Some (Run file ticks stim)
+  pub means_run : means words ≡ Some (Run file ticks workers stim)
   pub text : List ℕ
   pub told : IsFileOf shelf.files file text
   pub L : Image
@@ -61,8 +62,8 @@ NamesLine out L asked = (line : ℕ) × (rule : ℕ) × IsFirstBrokenOn L asked 
 -- without a trap, of `time` where the routes break no rule.
 pub record OutputCauses (words : List (List ℕ)) (shelf : Loads) (status : ℕ) : Type 0 where
   pub done : status ≡ 0 → OfFile words (λ file. (text : List ℕ) × IsFileOf shelf.files file text × ((P : List Item) × IsAccepted text P))
-  pub finished : status ≡ 0 → (file : List ℕ) (ticks : ℕ) (stim : Option (List ℕ)) → means words ≡ Some (Run file ticks stim) →
-      WasRun words shelf (λ word trapped. (word ≡ Finished) × (trapped ≡ false))
+  pub finished : status ≡ 0 → (file : List ℕ) (ticks workers : ℕ) (stim : Option (List ℕ)) →
+      means words ≡ Some (Run file ticks workers stim) → WasRun words shelf (λ word trapped. (word ≡ Finished) × (trapped ≡ false))
   pub bounded : status ≡ 0 → (file name : List ℕ) → means words ≡ Some (Time file name) → WasTimed words shelf BreaksNone
   pub trapped : status ≡ 3 → WasRun words shelf (λ word trapped. trapped ≡ true)
   pub stopped : status ≡ 4 → WasRun words shelf (λ word trapped. (word ≡ Stopped) × (trapped ≡ false))
@@ -122,7 +123,7 @@ pub data Timed (text asked : List ℕ) (out : Span) : (status : ℕ) → Type 0 
 
 -- what a command makes of an accepted text and a stimulus, and of its routes where they are there
 abbrev pub DoneWith : List File → Command → List ℕ → Stim → Span → ℕ → Type 0
-DoneWith files (Run file ticks stim) text s out status = Ran text s ticks out status
+DoneWith files (Run file ticks workers stim) text s out status = Ran text s ticks out status
 DoneWith files (Asm file) text s out status = Assembled text out status
 DoneWith files (Check file) text s out status = Checked out status
 DoneWith files (Time file name) text s out status =

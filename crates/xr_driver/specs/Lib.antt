@@ -7,4 +7,5 @@ pub mod Answers
 pub mod Causes
 pub mod Decision
 pub mod Parts
+pub mod Next
 pub mod Reads

@@ -74,7 +74,7 @@ fn add_printed<O: Sink>(out: &mut Out<'_, O>, printed: &Printed)
             add_image(out, image);
             out.settle();
             out.add(b"trace\n");
-            add_records(out, run.machine.trace());
+            add_records(out, run.trace.as_slice());
             out.settle();
             out.add(b"end ");
             add_word(out, run.end);

@@ -1,6 +1,7 @@
-ghost use Rattle.std.specs.Prelude.{◌≡◌, map, string_bytes};
+ghost use Rattle.std.specs.Prelude.{◌≡◌, false, map, string_bytes};
 ghost use Rattle.xr_driver.specs.Answers.{Answers};
 ghost use Rattle.xr_driver.specs.Causes.{Completes, OnlyCauses};
+ghost use Rattle.xr_driver.specs.Command.{mean_workers};
 ghost use Rattle.xr_driver.specs.Outside.{loads, span};
 
 use crate::decide::decide;
@@ -8,7 +9,7 @@ use crate::deliver::deliver;
 use std::alloc::Global;
 use xw_io::{Shelf, Sink};
 
-/// Does what the words mean, and answers the status. It waits for nobody.
+/// Does what the words mean, but a run by two workers or more (`waits`), and answers the status. It waits for nobody.
 pub fn still<S: Shelf, O: Sink, E: Sink>(
     alloc: Global,
     words: &[String],
@@ -16,6 +17,8 @@ pub fn still<S: Shelf, O: Sink, E: Sink>(
     out: &mut O,
     err: &mut E,
 ) -> u8
+    requires alone { mean_workers (map string_bytes words.now) ≡ false }
+
     // What is decided has its cause, and each sink gained what is due with it, or a front of it with status 9.
     ensures answers { Answers (map string_bytes words.now)
         (loads S.files S.faults S.misses S.longs shelf.old shelf.new)

@@ -5,7 +5,7 @@ use crate::trouble::Trouble;
 use std::alloc::{AllocError, Global};
 use std::sync::Wait;
 use std::thread::Threads;
-use xr_driver::{still, xcsim};
+use xr_driver::{still, waits, xcsim};
 use xw_io::{File, MemShelf, MemSink, OpenGate, Shelf};
 use xw_words::{List, Memory};
 
@@ -97,7 +97,7 @@ fn load_fails_of(alloc: Global, case: &str) -> Result<List<u32>, Trouble> {
 }
 
 impl Outside {
-    /// Makes a call with these words, and gives its status.
+    /// Makes a call with these words, and gives its status. Where they ask for workers it is the program's.
     pub fn call<R: Threads + Wait + Sync>(
         &mut self,
         rt: &R,
@@ -107,10 +107,10 @@ impl Outside {
     ) -> Result<u8, AllocError> {
         let words = word_list(alloc, words)?;
         let Outside { shelf, out, err } = self;
-        Ok(match call {
-            Call::Xcsim => xcsim(rt, alloc, words.as_slice(), shelf, out, err, &OpenGate),
-            Call::Still => still(alloc, words.as_slice(), shelf, out, err),
-        })
+        if matches!(call, Call::Still) && !waits(words.as_slice()) {
+            return Ok(still(alloc, words.as_slice(), shelf, out, err));
+        }
+        Ok(xcsim(rt, alloc, words.as_slice(), shelf, out, err, &OpenGate))
     }
 
     /// Whether as many files were loaded as a case tells, where it does: the load behind these fails, and that has to be this one.

@@ -2,14 +2,13 @@
 
 ghost use Rattle.std.specs.Bool.{OnTrue};
 ghost use Rattle.std.specs.Prelude.{map};
-ghost use Rattle.xc_kernel.specs.Kernels.{default_of, output_of, root_of, statement_of};
+ghost use Rattle.xc_kernel.specs.Kernels.{output_of, root_of, statement_of};
 ghost use Rattle.xc_kernel.specs.Plain as plain;
 ghost use Rattle.xl_image.specs.Roots.{RootsAreBuilt};
 ghost use Rattle.xl_select.specs.OpeningCode.{cases_of};
-ghost use Rattle.xl_statements.specs.Built.{AreBuilt, BranchesAreBuilt, CasesAreBuilt, DefaultIsBuilt, IsBuilt, branches_of, statements_of};
+ghost use Rattle.xl_statements.specs.Built.{AreBuilt, BranchesAreBuilt, CasesAreBuilt, IsBuilt, branches_of, statements_of};
 
 use xc_kernel::{KBranch, KCase, KOut, KRes, Kst, Root};
-use xw_words::List;
 
 /// Whether the code of each root is built.
 pub fn are_roots_built(roots: &[Root]) -> bool
@@ -56,7 +55,11 @@ fn is_built(statement: &Kst) -> bool
         Kst::Par(branches) => are_branches_built(branches.as_slice()),
         Kst::In(_) => true,
         Kst::Select(select) => {
-            are_cases_built(select.cases.as_slice()) && is_default_built(&select.otherwise)
+            are_cases_built(select.cases.as_slice())
+                && match &select.otherwise {
+                    None => true,
+                    Some(body) => are_built(body.as_slice()),
+                }
         }
         Kst::Tran { .. } => false,
     }
@@ -74,18 +77,6 @@ fn are_cases_built(cases: &[KCase]) -> bool
         }
     }
     true
-}
-
-/// Whether the code of a default is built, if there is one.
-#[cycle(statement)]
-#[tactic(auto, using(xc_kernel::proofs::Forms::forms))]
-fn is_default_built(otherwise: &Option<List<Kst>>) -> bool
-    ensures { OnTrue result (DefaultIsBuilt (default_of otherwise.now)) }
-{
-    match otherwise {
-        None => true,
-        Some(body) => are_built(body.as_slice()),
-    }
 }
 
 /// Whether the code of each branch is built.

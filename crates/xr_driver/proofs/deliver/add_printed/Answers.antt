@@ -19,7 +19,7 @@ unfolding run_output
 returns-in-Whole-clause-drew g c =
     let p = c.add-in-Whole.ensures.drew ▸ c.add_image-in-Whole.ensures.drew ▹ c.settle-in-Whole.ensures.drew ▸ c.add-in-Whole-2.ensures.drew ▸ c.add_records.ensures.drew
     ▹ c.settle-in-Whole-2.ensures.drew ▸ c.add-in-Whole-3.ensures.drew ▸ c.add_word.ensures.drew ▸ c.add-in-Whole-4.ensures.drew in
-    rw c.in-Whole.is (rw c.trace.ensures at p)
+    rw c.in-Whole.is (rw c.as_slice-in-Whole.ensures at p)
 
 pub returns-in-Accepted-clause-same_sink : goal.returns-in-Accepted-clause-same_sink
 returns-in-Accepted-clause-same_sink g c =

@@ -6,7 +6,7 @@ use Rattle.xr_driver.proofs.RunWords.{run_from}
 use Rattle.xr_driver.proofs.words.run_of.Given as goal
 
 abbrev pub invariant-words : goal.invariant-words
-invariant-words l = run_of (map string_bytes l.fn.words) ≡ run_from (names_of l.operands) l.ticks (map string_bytes l.rest)
+invariant-words l = run_of (map string_bytes l.fn.words) ≡ run_from (names_of l.operands) l.told (map string_bytes l.rest)
 
 abbrev pub decreases-words : goal.decreases-words
 decreases-words l = length l.rest

@@ -1,5 +1,5 @@
 use Rattle.xr_driver.proofs.Decides.{bad_route_at, image_without_memory, timed_at}
-use Rattle.xr_driver.proofs.decide.time_image.Goals as goal
+use Rattle.xr_driver.proofs.prepare.time_image.Goals as goal
 
 pub returns-in-Ok-clause-decided : goal.returns-in-Ok-clause-decided
 returns-in-Ok-clause-decided c file =

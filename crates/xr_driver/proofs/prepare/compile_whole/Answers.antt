@@ -1,5 +1,5 @@
 use Rattle.xr_driver.proofs.Carried.{all_compiled}
-use Rattle.xr_driver.proofs.decide.compile_whole.Goals as goal
+use Rattle.xr_driver.proofs.prepare.compile_whole.Goals as goal
 
 pub returns-clause-compiled : goal.returns-clause-compiled
 returns-clause-compiled c =

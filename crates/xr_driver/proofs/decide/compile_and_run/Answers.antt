@@ -1,8 +1,0 @@
-use Rattle.xr_driver.proofs.Decides.{all_without_memory, compiled_at}
-use Rattle.xr_driver.proofs.decide.compile_and_run.Goals as goal
-
-pub returns-in-Ok-clause-decided : goal.returns-in-Ok-clause-decided
-returns-in-Ok-clause-decided c file name = compiled_at _ _ c.in-Ok.ensures.compiled _ _ _ (c.run_image.ensures.decided file name)
-
-pub returns-in-Err-clause-decided : goal.returns-in-Err-clause-decided
-returns-in-Err-clause-decided c file name = rw c.saying.ensures (all_without_memory _ _ _)
