@@ -98,7 +98,7 @@ class Scripts(unittest.TestCase):
     def test_help(self):
         """Each tells its words, and README has a row for each."""
         names = sorted(it.name for it in os.scandir(os.path.join(TOP, "bench")) if it.is_file() and "." not in it.name)
-        self.assertEqual(len(names), 18)
+        self.assertEqual(len(names), 19)
         for name in names:
             self.assertIn(f"usage: bench/{name} ", self.call(name, "--help"))
         self.assertEqual(sorted(re.findall(r"^\| `(\w+)", written(os.path.join(TOP, "bench", "README.md")), re.MULTILINE)), names)

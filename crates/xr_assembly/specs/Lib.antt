@@ -1,0 +1,9 @@
+pub mod Cuts
+pub mod Errors
+pub mod Forms
+pub mod Images
+pub mod Instructions
+pub mod Listings
+pub mod Reading
+pub mod References
+pub mod Written
